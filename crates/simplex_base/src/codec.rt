@@ -134,17 +134,14 @@ pub trait Encode: Write + EncodeSize {
 
 impl<T: Write + EncodeSize> Encode for T {}
 
-/// A type whose encodings all have one length.
-pub trait FixedSize {
+/// A type whose values are exactly its lists of [`SIZE`](Fixed::SIZE) bytes, as digests, signatures
+/// and public keys.
+pub trait Fixed: Copy + Eq {
     ghost SIZE: { ℕ };
 
     /// The length in bytes, from 1 to 65,535.
     const SIZE: usize;
-}
 
-/// A type whose values are exactly its lists of [`SIZE`](FixedSize::SIZE) bytes, as digests, signatures
-/// and public keys.
-pub trait Fixed: FixedSize + Copy + Eq + Ord + Hash {
     /// The bytes of a value.
     ghost bytes_of: { Self → List ℕ };
 
@@ -154,39 +151,58 @@ pub trait Fixed: FixedSize + Copy + Eq + Ord + Hash {
     /// The bytes of the value.
     fn as_bytes(&self) -> &[u8]
         ensures value { result.now ≡ bytes_of self.now }
-        ensures fixed { IsFixed Self.SIZE (bytes_of self.now) };
+        ensures fixed { IsFixed SIZE (bytes_of self.now) };
 
-    /// The value of these bytes, of which there have to be [`SIZE`](FixedSize::SIZE).
+    /// The value of these bytes, of which there have to be [`SIZE`](Fixed::SIZE).
     fn from_bytes(bytes: &[u8]) -> Self
-        requires { length bytes.now ≡ Self.SIZE }
+        requires { length bytes.now ≡ SIZE }
         ensures { result ≡ of_bytes bytes.now };
 
     /// The size is from 1 to 65,535.
-    ghost sized: { (0 < Self.SIZE) × (Self.SIZE ≤ 65535) };
+    ghost sized: { (0 < SIZE) × (SIZE ≤ 65535) };
 
     /// Each list of that many bytes is the bytes of a value,
-    ghost back: { (bytes : List ℕ) → IsFixed Self.SIZE bytes → bytes_of (of_bytes bytes) ≡ bytes };
+    ghost back: { (bytes : List ℕ) → IsFixed SIZE bytes → bytes_of (of_bytes bytes) ≡ bytes };
 
     /// and of one only.
-    ghost forth: { (x : Self) → IsFixed Self.SIZE (bytes_of x) → of_bytes (bytes_of x) ≡ x };
+    ghost forth: { (x : Self) → IsFixed SIZE (bytes_of x) → of_bytes (bytes_of x) ≡ x };
 
     /// Reading gives the value of the first bytes, as many as the size, and reads no others.
-    ghost lawful: { Lawful (λ x. IsFixed Self.SIZE (bytes_of x)) bytes_of
-        (fixed_at Self.SIZE of_bytes) } = { fixed_lawful Self.SIZE bytes_of of_bytes back forth };
+    ghost lawful: { Lawful (λ x. IsFixed SIZE (bytes_of x)) bytes_of
+        (fixed_at SIZE of_bytes) } = { fixed_lawful SIZE bytes_of of_bytes back forth };
 
     /// No value has more bytes than the size,
-    ghost within: { IsWithin (fixed Self.SIZE bytes_of of_bytes)
-        Self.SIZE } = { fixed_within Self.SIZE bytes_of of_bytes };
+    ghost within: { IsWithin (fixed SIZE bytes_of of_bytes)
+        SIZE } = { fixed_within SIZE bytes_of of_bytes };
 
     /// and some value has as many.
-    ghost longest: { Longest (fixed Self.SIZE bytes_of of_bytes)
-        Self.SIZE } = { fixed_longest Self.SIZE bytes_of of_bytes back };
+    ghost longest: { Longest (fixed SIZE bytes_of of_bytes)
+        SIZE } = { fixed_longest SIZE bytes_of of_bytes back };
 
     /// Two values are equal exactly where their bytes are.
     ghost equal: { (x y : Self) → (Self.eq x y ≡ true) ↔ (bytes_of x ≡ bytes_of y) };
+}
 
+/// A type whose encodings all have one length.
+pub trait FixedSize {
+    ghost SIZE: { ℕ };
+
+    /// The length in bytes.
+    const SIZE: usize;
+}
+
+impl<T: Fixed> FixedSize for T {
+    ghost SIZE = { T.SIZE };
+
+    const SIZE: usize = T::SIZE;
+}
+
+/// A type of a fixed size whose values can be put in order and hashed, as [`FixedBytes`](fixed_bytes::FixedBytes) can. Messages
+/// ask for less of digests and signatures, which is [`Fixed`].
+pub trait Array: Fixed + Ord + Hash {
     /// Values are ordered as their bytes are.
-    ghost ordered: { (x y : Self) → Self.cmp x y ≡ slice_cmp nat_cmp (bytes_of x) (bytes_of y) };
+    ghost ordered: { (x y : Self) →
+        Self.cmp x y ≡ slice_cmp nat_cmp (Self.bytes_of x) (Self.bytes_of y) };
 }
 
 /// Reads a value that needs no configuration, and moves the slice past it. `OutOfMemory` only where

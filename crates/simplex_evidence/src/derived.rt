@@ -9,7 +9,10 @@ use simplex_votes::types::{
     Finalization, Finalize, Notarization, Notarize, Nullification, Nullify,
 };
 
-impl<S: CertificateScheme, D: Digest> EqByParts for Activity<S, D> {
+impl<S: CertificateScheme, D: Digest> EqByParts for Activity<S, D>
+where
+    S::Certificate: Eq,
+{
     ghost use Rattle.simplex_evidence.specs.Activity.{same_activity};
     ghost use Rattle.simplex_evidence.specs.declared.types.activity.Activity.TheVariants.{Notarize, Notarization, Certification, Nullify, Nullification, Finalize, Finalization, ConflictingNotarize, ConflictingFinalize, NullifyFinalize};
 

@@ -10,7 +10,7 @@ ghost use Rattle.simplex_ffi.specs.Messages.{AreSigners, IsCertificateKind, IsVo
 use crate::votes::{Said, put_bytes, said_by};
 use simplex_base::codec::counted::{size_counted, write_counted};
 use simplex_base::codec::fixed_bytes::Role;
-use simplex_base::codec::{EncodeSize, Encoding, Fixed, FixedSize, Read, Write};
+use simplex_base::codec::{EncodeSize, Encoding, Fixed, Read, Write};
 use simplex_base::positions::Participant;
 use simplex_border::answer::{ARGUMENTS, MEMORY};
 use simplex_border::signatures::{VouchedSize, vouched_size};

@@ -32,6 +32,9 @@ fn account_records<S: Counted<D>, D: Digest>(
     committees: &Committees<S>,
     stream: &[u8],
 ) -> Result<(Report<S, D>, String, Vec<Record>), AllocError>
+where
+    D: Ord,
+    S::Signature: Ord,
     ensures { IfOk result (λ (report, text, found).
         IsAudit (⟦<S as Audited<D>>⟧.basis committees.now) stream.now report ×
         (string_bytes text ≡ report_text D.bytes_of report) ×
@@ -54,6 +57,9 @@ fn answer_records<S: Counted<D>, D: Digest>(
     buffer: &mut [Record],
     summary: &mut ReportSummary,
 ) -> u32
+where
+    D: Ord,
+    S::Signature: Ord,
     ensures recorded { result ≢ 3 → AreRecorded (⟦<S as Audited<D>>⟧.basis committees.now)
         D.bytes_of ⟦<S as Located<D>>⟧.carries ⟦<S as Located<D>>⟧.stands stream.now
         buffer.old buffer.new summary.new result }

@@ -4,7 +4,7 @@ use crate::without_memory::is_out;
 use simplex_base::codec::MaxEncodeSize;
 use simplex_base::positions::{Epoch, Participant, Round, View};
 use simplex_scheme::scheme::{
-    Attestation, CertificateScheme, Digest, Proposal, Sha256Digest, max_faults, quorum,
+    Attestation, CertificateScheme, Digest, Proposal, PublicKey, Sha256Digest, max_faults, quorum,
 };
 use simplex_schemes::marked::{Marked, MarkedDigest};
 use simplex_schemes::plain::Plain;
@@ -48,7 +48,10 @@ fn one_of_four_may_lie(rt: HostRuntime) {
 /// The greatest encoded sizes, in bytes, of an epoch, a view, a participant and a round, of an attestation, a proposal, a
 /// notarize, a nullify, a finalize, a vote and a context, and for four participants of a certificate, a notarization, a
 /// nullification, a finalization and a certificate message.
-fn sizes<S: CertificateScheme, D: Digest>() -> [usize; 16] {
+fn sizes<S: CertificateScheme, D: Digest>() -> [usize; 16]
+where
+    S::PublicKey: PublicKey,
+{
     [
         Epoch::max_encode_size(),
         View::max_encode_size(),
@@ -70,7 +73,10 @@ fn sizes<S: CertificateScheme, D: Digest>() -> [usize; 16] {
 }
 
 /// Whether these are the greatest sizes.
-fn are_sizes<S: CertificateScheme, D: Digest>(wanted: &[usize]) -> bool {
+fn are_sizes<S: CertificateScheme, D: Digest>(wanted: &[usize]) -> bool
+where
+    S::PublicKey: PublicKey,
+{
     sizes::<S, D>().as_slice() == wanted
 }
 

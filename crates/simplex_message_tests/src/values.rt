@@ -66,7 +66,10 @@ const MESSAGES: [&[u8]; 16] = [
 fn are_messages_told_apart<S: CertificateScheme, D: Digest>(
     rt: &impl Abort,
     alloc: Global,
-) -> Result<(), Fail> {
+) -> Result<(), Fail>
+where
+    S::Certificate: Eq,
+{
     are_told_apart::<Activity<S, D>>(rt, alloc, &4, &MESSAGES)
 }
 

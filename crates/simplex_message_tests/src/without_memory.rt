@@ -106,7 +106,10 @@ fn are_stored<
 }
 
 /// Whether votes and certificate messages become artifacts, and each artifact is of their round.
-fn are_all_stored<S: CertificateScheme, D: Digest>(alloc: Global) -> Result<bool, Fail> {
+fn are_all_stored<S: CertificateScheme, D: Digest>(alloc: Global) -> Result<bool, Fail>
+where
+    S::Certificate: Eq,
+{
     let certificates = decoded::<Certificate<S, D>>(alloc, &4, &CERTIFICATES)?;
     let stored = decoded::<Artifact<S, D>>(alloc, &4, &STORED_CERTIFICATES)?;
     let votes = decoded::<Vote<S, D>>(alloc, &(), &VOTES)?;

@@ -219,6 +219,9 @@ pub fn records<S: Counted<D>, D: Digest>(
     stream: &[u8],
     report: &Report<S, D>,
 ) -> Result<Vec<Record>, AllocError>
+where
+    D: Ord,
+    S::Signature: Ord,
     // One for each evidence of the report, of any stream: whom it accuses, and of what.
     ensures whose { IfOk result (λ found.
         AllZip IsOfEvidence (evidence_in report.now) found.items) }

@@ -7,11 +7,10 @@ ghost use Rattle.simplex_rules.specs.Values.{evidence_value};
 ghost use Rattle.simplex_places.specs.Votes.{proposal_of, same_signed_vote, vote_key};
 ghost use Rattle.simplex_places.specs.KeyLaws.{keys_alike};
 
+use simplex_base::codec::Fixed;
 use simplex_base::positions::{Participant, Round, Roundable};
 use simplex_rules::evidence::Evidence;
-use simplex_scheme::scheme::{
-    Attestation, Digest, Proposal, SchemeTypes, Signature, Subject, VoteKind,
-};
+use simplex_scheme::scheme::{Attestation, Digest, Proposal, SchemeTypes, Subject, VoteKind};
 use simplex_votes::types::{Finalize, Notarize, Nullify};
 
 /// A vote by its value: its subject, its signer and its signature. Keys are ordered only so that they can be looked up.
@@ -25,7 +24,7 @@ pub struct VoteKey<D, G> {
 }
 
 /// A type of keys, which identify votes by their values.
-pub trait Key<D: Digest, G: Signature>: Ord + Drop {
+pub trait Key<D: Digest, G: Fixed>: Ord + Drop {
     /// The key of a vote.
     ghost key_of: { SignedVote D G → Self };
 
@@ -44,7 +43,7 @@ pub trait Key<D: Digest, G: Signature>: Ord + Drop {
         Self.eq (key_of v) (key_of w) ≡ same_signed_vote D.eq G.eq v w };
 }
 
-impl<D: Digest, G: Signature> Key<D, G> for VoteKey<D, G> {
+impl<D: Digest + Ord, G: Fixed + Ord> Key<D, G> for VoteKey<D, G> {
     ghost use Rattle.simplex_scheme.specs.declared.kind.VoteKind.TheVariants.{Notarize, Nullify, Finalize};
 
     ghost key_of = { vote_key };

@@ -1,12 +1,11 @@
 //! How often a scheme is asked about certificates that are verified at once: about all of them, and then about both halves of
 //! each part that it refuses, down to single certificates.
 
-use crate::counted::Counted;
+use crate::counted::{Counted, CountedCertificate};
 use simplex_base::codec::{Fixed, decode_cfg};
 use simplex_base::positions::{Epoch, Round, View};
 use simplex_evidence::types::verify_certificates;
 use simplex_scheme::scheme::{CertificateVerifier, Digest, Proposal, Subject};
-use simplex_schemes::listed::Listed;
 use simplex_schemes::marked::MarkedDigest;
 use std::alloc::{AllocError, Global};
 use std::process::Abort;
@@ -27,7 +26,7 @@ fn certificates(
     alloc: Global,
     count: usize,
     invalid: &[usize],
-) -> Result<Vec<Listed<Counted>>, Fail> {
+) -> Result<Vec<CountedCertificate>, Fail> {
     let mut made = Vec::with_capacity(alloc, count)?;
     for place in 0..count {
         let bytes = if !invalid.contains(&place) {
@@ -37,7 +36,7 @@ fn certificates(
         } else {
             UNSIGNED
         };
-        made.push(decode_cfg::<Listed<Counted>>(alloc, bytes, &4)?)?;
+        made.push(decode_cfg::<CountedCertificate>(alloc, bytes, &4)?)?;
     }
     Ok(made)
 }

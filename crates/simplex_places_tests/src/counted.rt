@@ -4,15 +4,18 @@ ghost use Rattle.std.specs.Prelude.{◌≡◌, ◌+◌, ◌*◌, ◌<◌, ◌≤
 ghost use Rattle.std.specs.List.{IsDistinct};
 ghost use Rattle.std.specs.Str.{bytes_eq};
 ghost use Rattle.std.proofs.Common.{lit≤};
+ghost use Rattle.simplex_base.specs.Format.{format_of};
+ghost use Rattle.simplex_base.specs.FormatLaws.{fixed_lawful};
 ghost use Rattle.simplex_scheme.specs.Subject.{SubjectValue, subject_value};
 ghost use Rattle.simplex_scheme.specs.Committee.{IsInOrder, is_quorum, quorum_of, signers_of, RefusesFew};
 ghost use Rattle.simplex_schemes.specs.CommitteeLaws.{quorum_meaning, listed_size};
+ghost use Rattle.simplex_schemes.specs.ListedLaws.{listed_lawful};
 ghost use Rattle.simplex_schemes.specs.Marked.{marked_good};
 ghost use Rattle.simplex_schemes.specs.MarkedLaws.{marked_members};
 ghost use Rattle.simplex_places_tests.specs.Counted.{nobody};
 
-use simplex_base::codec::Fixed;
 use simplex_base::codec::fixed_bytes::FixedBytes;
+use simplex_base::codec::{EncodeSize, Encoding, Error, Fixed, Read, Write};
 use simplex_base::positions::Participant;
 use simplex_places::located;
 use simplex_scheme::scheme::{
@@ -22,7 +25,7 @@ use simplex_scheme::scheme::{
 use simplex_schemes::certificates::{
     AttestationVerifier, are_certified, assembled, is_certified, is_certified_knowing,
 };
-use simplex_schemes::listed::Listed;
+use simplex_schemes::listed::{Listed, Lists};
 use simplex_schemes::marked::{MarkedKey, MarkedKeyRole, MarkedSignatureRole};
 use std::alloc::{AllocError, Global};
 use std::cell::Cell;
@@ -100,8 +103,79 @@ impl SchemeTypes for Counted {
     type Signature = FixedBytes<MarkedSignatureRole, 1>;
 }
 
+/// A certificate of the committee that counts.
+#[derive(Drop)]
+pub(crate) struct CountedCertificate(Listed<Counted>);
+
+impl Model for CountedCertificate {
+    ghost use Rattle.std.specs.Prelude.{List, ℕ};
+    ghost use Rattle.simplex_scheme.specs.declared.scheme.Attestation.{Attestation};
+
+    ghost Value = { List (Attestation (List (List ℕ)) (List ℕ) (List ℕ)) };
+
+    ghost view = { λ certificate. certificate.0 };
+
+    ghost inverse = { λ certificate. record { 0 = certificate } };
+}
+
+impl Lists<Counted> for CountedCertificate {
+    ghost list = { λ certificate. certificate };
+
+    fn as_listed(&self) -> &Listed<Counted> {
+        &self.0
+    }
+}
+
+impl Clone for CountedCertificate {
+    ghost is_clone = { λ certificate copy. copy ≡ certificate };
+
+    fn clone(&self) -> Result<Self, AllocError> {
+        Ok(CountedCertificate(self.0.clone()?))
+    }
+}
+
+impl Encoding for CountedCertificate {
+    ghost is_value = { ⟦<Listed<Counted> as Encoding>⟧.is_value };
+
+    ghost encoding = { ⟦<Listed<Counted> as Encoding>⟧.encoding };
+}
+
+impl Write for CountedCertificate {
+    fn write(&self, buf: &mut Vec<u8>) -> Result<(), AllocError> {
+        self.0.write(buf)
+    }
+}
+
+impl EncodeSize for CountedCertificate {
+    ghost limit = { ⟦<Listed<Counted> as EncodeSize>⟧.limit };
+
+    fn encode_size(&self) -> usize {
+        self.0.encode_size()
+    }
+}
+
+impl Read for CountedCertificate {
+    type Cfg = u32;
+
+    ghost fits = { ⟦<Listed<Counted> as Read>⟧.fits };
+
+    ghost reading = { ⟦<Listed<Counted> as Read>⟧.reading };
+
+    ghost takes_memory = { true };
+
+    fn read_cfg(alloc: Global, input: &mut &[u8], bound: &u32) -> Result<Self, Error> {
+        match Listed::read_cfg(alloc, input, bound) {
+            Ok(listed) => Ok(CountedCertificate(listed)),
+            Err(error) => Err(error),
+        }
+    }
+
+    ghost lawful = { λ bound. listed_lawful (format_of ⟦<FixedBytes<MarkedSignatureRole, 1> as Read>⟧) bound
+        (fixed_lawful 1 (λ x. x) (λ bytes. bytes) (λ bytes _. refl) (λ x _. refl)) };
+}
+
 impl CertificateScheme for Counted {
-    type Certificate = Listed<Counted>;
+    type Certificate = CountedCertificate;
 
     ghost keys = { λ counted. counted };
 
@@ -150,7 +224,7 @@ impl<D: Digest> CertificateVerifier<D> for Counted {
     ghost certified = { λ scheme subject.
         is_quorum (length scheme) (marked_good (length scheme) subject) };
 
-    fn verify_certificate(&self, subject: Subject<'_, D>, certificate: &Listed<Counted>) -> bool
+    fn verify_certificate(&self, subject: Subject<'_, D>, certificate: &CountedCertificate) -> bool
         ensures { result ≡ is_quorum (length self.now)
             (marked_good (length self.now) (subject_value subject.entry)) certificate.now }
     {
@@ -159,10 +233,10 @@ impl<D: Digest> CertificateVerifier<D> for Counted {
             Subject::Nullify { round } => Subject::Nullify { round },
             Subject::Finalize { proposal } => Subject::Finalize { proposal },
         };
-        is_certified(self, &subject, certificate)
+        is_certified(self, &subject, certificate.as_listed())
     }
 
-    fn verify_all<'a>(&self, items: &[(Subject<'a, D>, &'a Listed<Counted>)]) -> bool {
+    fn verify_all<'a>(&self, items: &[(Subject<'a, D>, &'a CountedCertificate)]) -> bool {
         self.lists.set(self.lists.get().saturating_add(1));
         are_certified(self, items)
     }
@@ -198,7 +272,7 @@ impl<D: Digest> Scheme<D> for Counted {
         &self,
         _alloc: Global,
         attestations: Vec<Attestation<Self>>,
-    ) -> Result<Listed<Counted>, AssemblyError>
+    ) -> Result<CountedCertificate, AssemblyError>
         requires distinct { IsDistinct nat_eq (signers_of attestations.items) }
         requires members { All (λ a. a.signer < length self.now) attestations.items }
         ensures below { RefusesFew (length self.now) (length attestations.items) result }
@@ -211,7 +285,7 @@ impl<D: Digest> Scheme<D> for Counted {
             is_quorum (length self.now) (marked_good (length self.now) subject) certificate ≡
             true) }
     {
-        assembled(self, attestations)
+        Ok(CountedCertificate(assembled(self, attestations)?))
     }
 
     ghost members = { λ counted subject signer signature h.
@@ -221,17 +295,17 @@ impl<D: Digest> Scheme<D> for Counted {
 impl<D: Digest> Listing<D> for Counted {
     ghost listed = { λ certificate. certificate };
 
-    fn attestations(certificate: &Listed<Counted>) -> &[Attestation<Self>] {
-        certificate.attestations()
+    fn attestations(certificate: &CountedCertificate) -> &[Attestation<Self>] {
+        certificate.as_listed().attestations()
     }
 
     fn verify_certificate_knowing<K: Known<Self, D>>(
         &self,
         subject: &Subject<'_, D>,
-        certificate: &Listed<Counted>,
+        certificate: &CountedCertificate,
         known: &K,
     ) -> bool {
-        is_certified_knowing(self, subject, certificate, known)
+        is_certified_knowing(self, subject, certificate.as_listed(), known)
     }
 
     ghost lists_quorums = { λ scheme subject certificate.
@@ -241,8 +315,8 @@ impl<D: Digest> Listing<D> for Counted {
 }
 
 impl<D: Digest> located::Counted<D> for Counted {
-    fn count(certificate: &Listed<Counted>) -> u32 {
-        certificate.attestations().len() as u32
+    fn count(certificate: &CountedCertificate) -> u32 {
+        certificate.as_listed().attestations().len() as u32
     }
 
     ghost counted = { λ certificate. refl };

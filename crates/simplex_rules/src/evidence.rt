@@ -68,7 +68,8 @@ impl SignerInRound {
 
 /// Two votes of one signer in one round that contradict.
 #[derive(Drop)]
-#[derive_where(PartialEq, Eq, Hash)]
+#[derive_where(PartialEq, Eq)]
+#[derive_where(Hash; S::Signature, D)]
 pub enum Evidence<S: SchemeTypes, D: Digest> {
     /// Two notarizes of different proposals.
     ConflictingNotarize(ConflictingNotarize<S, D>),

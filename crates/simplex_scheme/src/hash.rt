@@ -6,13 +6,13 @@ ghost use Rattle.sha2.specs.Sha256.{sha256};
 ghost use Rattle.simplex_scheme.specs.Hashing.{joined};
 
 use crate::scheme::Digest;
-use simplex_base::codec::Fixed;
 use simplex_base::codec::fixed_bytes::{FixedBytes, Role};
+use simplex_base::codec::{Array, Fixed};
 
 /// A function from bytes to digests.
 pub trait Hasher {
     /// What it returns for any bytes.
-    type Digest: Digest;
+    type Digest: Digest + Array;
 
     /// The digest of some bytes.
     ghost digest_of: { List ℕ → Self.Digest };

@@ -8,7 +8,7 @@ use crate::scheme::Digest;
 use simplex_base::codec::parts::{size_both, split_fixed, write_both};
 use simplex_base::codec::varint::short_number;
 use simplex_base::codec::{
-    EncodeSize, Encoding, Error, Fixed, FixedSize, MaxEncodeSize, Read, ReadExt, Write,
+    EncodeSize, Encoding, Error, Fixed, MaxEncodeSize, Read, ReadExt, Write,
 };
 use simplex_base::or_return;
 use simplex_base::positions::{Round, Roundable, View};

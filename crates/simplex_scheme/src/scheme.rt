@@ -16,13 +16,13 @@ pub use crate::kind::VoteKind;
 pub use crate::known::{Known, NothingKnown};
 pub use crate::namespace::{CertificateNamespace, Namespace};
 pub use crate::proposal::{Proposal, ProposalParts};
-pub use crate::set::{Set, SetError};
+pub use crate::set::{Ordered, Set, SetError};
 pub use crate::subject::{CertificateSubject, Subject};
 use simplex_base::codec::fixed_bytes::{FixedBytes, Role};
 use simplex_base::codec::parts::{size_both, split_fixed, write_both};
 use simplex_base::codec::varint::short_number;
 use simplex_base::codec::{
-    EncodeSize, Encoding, Error, Fixed, FixedSize, MaxEncodeSize, Read, ReadExt, Write,
+    Array, EncodeSize, Encoding, Error, Fixed, MaxEncodeSize, Read, ReadExt, Write,
 };
 use simplex_base::or_return;
 use simplex_base::positions::Participant;
@@ -32,31 +32,28 @@ use std::hash::Hash;
 /// A digest of a payload.
 pub trait Digest: Fixed {}
 
-/// A signature.
-pub trait Signature: Fixed {}
-
 /// The key of a participant.
-pub trait PublicKey: Fixed {}
+pub trait PublicKey: Array {}
 
 impl<R: Role<N>, const N: usize> Digest for FixedBytes<R, N> {}
-
-impl<R: Role<N>, const N: usize> Signature for FixedBytes<R, N> {}
 
 impl<R: Role<N>, const N: usize> PublicKey for FixedBytes<R, N> {}
 
 /// The types of keys and signatures.
 pub trait SchemeTypes {
-    /// The key of a participant, by which it is listed in its committee.
-    type PublicKey: PublicKey;
+    /// The key of a participant, by which it is listed in its committee. No message has a key, so all that is asked of keys
+    /// here is the order in which a committee lists them.
+    type PublicKey: Ordered;
 
     /// What a participant signs a subject with.
-    type Signature: Signature;
+    type Signature: Fixed;
 }
 
 /// The number of a signer and its signature, encoded in that order: at most 5 bytes and the
 /// signature's.
 #[derive(Drop)]
-#[derive_where(PartialEq, Eq, Hash)]
+#[derive_where(PartialEq, Eq)]
+#[derive_where(Hash; S::Signature)]
 pub struct Attestation<S: SchemeTypes> {
     /// The number of the signer, which may be outside the committee.
     pub signer: Participant,
@@ -109,7 +106,7 @@ pub enum AssemblyError {
 /// A committee, which participant of it this is, if any, and the type of its certificates.
 pub trait CertificateScheme: SchemeTypes {
     /// What the attestations of a quorum are assembled into. It is read under the number of participants.
-    type Certificate: Read<Cfg = u32> + Write + EncodeSize + Clone + Eq + Hash + Drop;
+    type Certificate: Read<Cfg = u32> + Write + EncodeSize + Clone + Drop;
 
     /// The keys of the committee, in the order of the participants.
     ghost keys: { Self → List Self.PublicKey };

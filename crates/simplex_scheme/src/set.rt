@@ -14,13 +14,25 @@ pub enum SetError {
     Repeated,
 }
 
+/// A type with an order, of which contracts alone speak. There is nothing to call, and every type that is `Ord` is one.
+pub trait Ordered {
+    ghost use Rattle.std.specs.declared.cmp.Ordering.{Ordering};
+
+    /// How two values compare.
+    ghost order: { Self → Self → Ordering };
+}
+
+impl<T: Ord> Ordered for T {
+    ghost order = { T.cmp };
+}
+
 /// Distinct keys in ascending order. A participant's number is the place of its key.
 #[derive(Drop)]
-pub struct Set<K: Ord> {
+pub struct Set<K: Ordered> {
     keys: Vec<K>,
 }
 
-impl<K: Ord> Model for Set<K> {
+impl<K: Ordered> Model for Set<K> {
     ghost use Rattle.std.specs.Prelude.{List};
 
     ghost Value = { List K };
@@ -29,7 +41,7 @@ impl<K: Ord> Model for Set<K> {
 
     ghost view = { λ set. set.keys.items };
 
-    ghost invariant = { λ set. IsStrictlySortedBy K.cmp set.keys.items };
+    ghost invariant = { λ set. IsStrictlySortedBy K.order set.keys.items };
 }
 
 impl<K: Ord> Set<K> {
@@ -67,6 +79,17 @@ impl<K: Ord> Set<K> {
         Set { keys }
     }
 
+    /// The place of a key, if it is in the set.
+    pub fn position(&self, key: &K) -> Option<usize>
+        ensures found { IfSome result (λ place.
+            IsSomeAnd (slice_get self.now place) (λ one. K.eq one key.now ≡ true)) }
+        ensures none { IfNone result (All (λ one. K.eq one key.now ≡ false) self.now) }
+    {
+        self.keys.binary_search(key).ok()
+    }
+}
+
+impl<K: Ordered> Set<K> {
     /// The number of keys.
     pub fn len(&self) -> usize
         ensures { result ≡ length self.now }
@@ -86,14 +109,5 @@ impl<K: Ord> Set<K> {
         ensures { option_copied result ≡ slice_get self.now place }
     {
         self.keys.get(place)
-    }
-
-    /// The place of a key, if it is in the set.
-    pub fn position(&self, key: &K) -> Option<usize>
-        ensures found { IfSome result (λ place.
-            IsSomeAnd (slice_get self.now place) (λ one. K.eq one key.now ≡ true)) }
-        ensures none { IfNone result (All (λ one. K.eq one key.now ≡ false) self.now) }
-    {
-        self.keys.binary_search(key).ok()
     }
 }

@@ -18,7 +18,7 @@ ghost use Rattle.simplex_schemes.specs.Skimmed.{IsRefused};
 use simplex_base::codec::counted::{size_counted, write_counted};
 use simplex_base::codec::parts::known_bytes;
 use simplex_base::codec::varint::read_u32;
-use simplex_base::codec::{EncodeSize, Encoding, Error, FixedSize, Read, Write};
+use simplex_base::codec::{EncodeSize, Encoding, Error, Fixed, Read, Write};
 use simplex_scheme::scheme::{Attestation, SchemeTypes};
 use std::alloc::{AllocError, Global};
 use std::hash::{Hash, Hasher};
@@ -109,7 +109,10 @@ impl<S: SchemeTypes> Eq for Listed<S> {
     ghost laws = { lists_equiv (Prim.search (comparing, rules)) };
 }
 
-impl<S: SchemeTypes> Hash for Listed<S> {
+impl<S: SchemeTypes> Hash for Listed<S>
+where
+    S::Signature: Hash,
+{
     ghost hash_input = { fed.slice ⟦<Attestation<S> as Hash>⟧.hash_input };
 
     ghost respects_eq = { (fed.items_Alike {E = ⟦<Attestation<S> as PartialEq>⟧.eq}

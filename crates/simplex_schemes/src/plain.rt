@@ -29,7 +29,7 @@ use simplex_base::codec::{Fixed, Read};
 use simplex_base::positions::{Participant, Round};
 use simplex_scheme::scheme::{
     AssemblyError, Attestation, CertificateScheme, CertificateVerifier, Digest, Known, Listing,
-    Namespace, Proposal, PublicKey, Scheme, SchemeTypes, Set, Signature, Subject,
+    Namespace, Proposal, PublicKey, Scheme, SchemeTypes, Set, Subject,
 };
 use std::alloc::{AllocError, Global};
 use std::marker::Model;

@@ -25,7 +25,7 @@ use simplex_base::codec::fixed_bytes::{FixedBytes, Role};
 use simplex_base::positions::Participant;
 use simplex_scheme::scheme::{
     AssemblyError, Attestation, CertificateScheme, CertificateVerifier, Digest, Known, Listing,
-    PublicKey, Scheme, SchemeTypes, Set, Signature, Subject,
+    PublicKey, Scheme, SchemeTypes, Set, Subject,
 };
 use std::alloc::{AllocError, Global};
 use std::marker::{Model, PhantomData};

@@ -11,7 +11,7 @@ ghost use Rattle.simplex_shards.specs.Skips.{Skips, SkipsBoth, SkipsBy};
 
 use simplex_base::codec::fixed_bytes::Role;
 use simplex_base::codec::varint::{read_u32, read_u64};
-use simplex_base::codec::{Fixed, FixedSize, Read};
+use simplex_base::codec::{Fixed, Read};
 use simplex_scheme::scheme::{Digest, Listing, SchemeTypes};
 use simplex_schemes::marked::Marked;
 use simplex_schemes::plain::Plain;

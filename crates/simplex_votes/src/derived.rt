@@ -10,7 +10,10 @@ use simplex_base::positions::Round;
 use simplex_base::values::{EqByParts, ExactClone, InfallibleClone};
 use simplex_scheme::scheme::{Attestation, CertificateScheme, Digest, Proposal, SchemeTypes};
 
-impl<S: CertificateScheme, D: Digest> EqByParts for Artifact<S, D> {
+impl<S: CertificateScheme, D: Digest> EqByParts for Artifact<S, D>
+where
+    S::Certificate: Eq,
+{
     ghost use Rattle.simplex_votes.specs.Artifact.{same_artifact};
     ghost use Rattle.simplex_votes.specs.declared.types.artifact.Artifact.TheVariants.{Notarize, Notarization, Certification, Nullify, Nullification, Finalize, Finalization};
 
@@ -56,7 +59,10 @@ impl EqByParts for Kind {
     ] };
 }
 
-impl<S: CertificateScheme, D: Digest> EqByParts for Certificate<S, D> {
+impl<S: CertificateScheme, D: Digest> EqByParts for Certificate<S, D>
+where
+    S::Certificate: Eq,
+{
     ghost use Rattle.simplex_votes.specs.Unions.{same_certificate};
     ghost use Rattle.simplex_votes.specs.declared.types.certificate.Certificate.TheVariants.{Notarization, Nullification, Finalization};
 
@@ -85,7 +91,10 @@ impl<D: Eq, P: Eq> EqByParts for Context<D, P> {
     ghost equal = { λ x y. refl };
 }
 
-impl<S: CertificateScheme, D: Digest> EqByParts for Finalization<S, D> {
+impl<S: CertificateScheme, D: Digest> EqByParts for Finalization<S, D>
+where
+    S::Certificate: Eq,
+{
     ghost same = { λ x y. ⟦<Proposal<D> as PartialEq>⟧.eq x.proposal y.proposal &&
         S.Certificate.eq x.certificate y.certificate };
 
@@ -107,7 +116,10 @@ impl<S: SchemeTypes, D: Digest> EqByParts for Finalize<S, D> {
     ghost equal = { λ x y. refl };
 }
 
-impl<S: CertificateScheme, D: Digest> EqByParts for Notarization<S, D> {
+impl<S: CertificateScheme, D: Digest> EqByParts for Notarization<S, D>
+where
+    S::Certificate: Eq,
+{
     ghost same = { λ x y. ⟦<Proposal<D> as PartialEq>⟧.eq x.proposal y.proposal &&
         S.Certificate.eq x.certificate y.certificate };
 
@@ -129,7 +141,10 @@ impl<S: SchemeTypes, D: Digest> EqByParts for Notarize<S, D> {
     ghost equal = { λ x y. refl };
 }
 
-impl<S: CertificateScheme> EqByParts for Nullification<S> {
+impl<S: CertificateScheme> EqByParts for Nullification<S>
+where
+    S::Certificate: Eq,
+{
     ghost same = { λ x y. ⟦<Round as PartialEq>⟧.eq x.round y.round &&
         S.Certificate.eq x.certificate y.certificate };
 

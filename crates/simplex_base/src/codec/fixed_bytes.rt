@@ -4,7 +4,7 @@ ghost use Rattle.std.specs.Prelude.{ℕ, ◌≡◌, ◌<◌, ◌≤◌, ⊤, ref
 ghost use Rattle.std.proofs.lemmas.Slice.Eq.{bytes_eq-Decides};
 
 use crate::codec::parts::known_bytes;
-use crate::codec::{Fixed, FixedSize};
+use crate::codec::{Array, Fixed};
 use std::alloc::AllocError;
 use std::marker::{Model, PhantomData};
 
@@ -47,13 +47,11 @@ impl<R, const N: usize> Clone for FixedBytes<R, N> {
 
 impl<R, const N: usize> Copy for FixedBytes<R, N> {}
 
-impl<R: Role<N>, const N: usize> FixedSize for FixedBytes<R, N> {
+impl<R: Role<N>, const N: usize> Fixed for FixedBytes<R, N> {
     ghost SIZE = { N };
 
     const SIZE: usize = N;
-}
 
-impl<R: Role<N>, const N: usize> Fixed for FixedBytes<R, N> {
     ghost bytes_of = { λ fixed. fixed };
 
     ghost of_bytes = { λ bytes. bytes };
@@ -78,6 +76,8 @@ impl<R: Role<N>, const N: usize> Fixed for FixedBytes<R, N> {
     ghost forth = { λ x _. refl };
 
     ghost equal = { λ x y. bytes_eq-Decides x y };
+}
 
+impl<R: Role<N>, const N: usize> Array for FixedBytes<R, N> {
     ghost ordered = { λ x y. refl };
 }

@@ -31,7 +31,8 @@ use std::alloc::{AllocError, Global};
 /// A message: a vote, a certificate message, or evidence of two votes that contradict. It is encoded as one byte of
 /// tag, and then the parts of the member with that tag. It is read under the committee's bound.
 #[derive(Drop)]
-#[derive_where(PartialEq, Eq, Hash)]
+#[derive_where(PartialEq, Eq; S::Certificate)]
+#[derive_where(Hash; S::Certificate, S::Signature, D)]
 pub enum Activity<S: CertificateScheme, D: Digest> {
     /// Tag 0.
     Notarize(Notarize<S, D>),

@@ -17,7 +17,8 @@ use std::marker::Model;
 
 /// Two finalizes of one signer and one round for different proposals. Swapping them gives an unequal value.
 #[derive(Drop)]
-#[derive_where(PartialEq, Eq, Hash)]
+#[derive_where(PartialEq, Eq)]
+#[derive_where(Hash; S::Signature, D)]
 pub struct ConflictingFinalize<S: SchemeTypes, D: Digest> {
     finalize_1: Finalize<S, D>,
     finalize_2: Finalize<S, D>,

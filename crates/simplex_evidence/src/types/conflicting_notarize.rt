@@ -17,7 +17,8 @@ use std::marker::Model;
 
 /// Two notarizes of one signer and one round for different proposals. Swapping them gives an unequal value.
 #[derive(Drop)]
-#[derive_where(PartialEq, Eq, Hash)]
+#[derive_where(PartialEq, Eq)]
+#[derive_where(Hash; S::Signature, D)]
 pub struct ConflictingNotarize<S: SchemeTypes, D: Digest> {
     notarize_1: Notarize<S, D>,
     notarize_2: Notarize<S, D>,

@@ -17,7 +17,8 @@ use std::marker::Model;
 
 /// A nullify of a round and a finalize of a proposal of that round, both of one signer, encoded in that order.
 #[derive(Drop)]
-#[derive_where(PartialEq, Eq, Hash)]
+#[derive_where(PartialEq, Eq)]
+#[derive_where(Hash; S::Signature, D)]
 pub struct NullifyFinalize<S: SchemeTypes, D: Digest> {
     nullify: Nullify<S>,
     finalize: Finalize<S, D>,

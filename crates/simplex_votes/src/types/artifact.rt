@@ -21,7 +21,7 @@ use std::alloc::{AllocError, Global};
 /// A vote, a certificate message, or whether a round was certified: one byte of tag, and then the parts of the
 /// member with that tag. It is read under the committee's bound.
 #[derive(Drop)]
-#[derive_where(PartialEq, Eq)]
+#[derive_where(PartialEq, Eq; S::Certificate)]
 pub enum Artifact<S: CertificateScheme, D: Digest> {
     /// Tag 0.
     Notarize(Notarize<S, D>),

@@ -8,9 +8,7 @@ use crate::types::finalization::Finalization;
 use crate::types::notarization::Notarization;
 use crate::types::nullification::Nullification;
 use simplex_base::codec::unions::{Tagged, read_tagged, write_tagged};
-use simplex_base::codec::{
-    EncodeSize, Encoding, Error, Fixed, FixedSize, MaxEncodeSize, Read, Write,
-};
+use simplex_base::codec::{EncodeSize, Encoding, Error, Fixed, MaxEncodeSize, Read, Write};
 use simplex_base::positions::{Round, Roundable};
 use simplex_scheme::scheme::{CertificateScheme, CertificateVerifier, Digest, Proposal};
 use std::alloc::{AllocError, Global};
@@ -56,7 +54,7 @@ impl fmt::Display for Kind {
 /// 31 bytes, the digest's and those of the greatest certificate. It is read under the committee's
 /// bound.
 #[derive(Drop)]
-#[derive_where(PartialEq, Eq)]
+#[derive_where(PartialEq, Eq; S::Certificate)]
 pub enum Certificate<S: CertificateScheme, D: Digest> {
     /// Tag 0.
     Notarization(Notarization<S, D>),

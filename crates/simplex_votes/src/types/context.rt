@@ -5,7 +5,7 @@ ghost use Rattle.simplex_base.specs.Format.{format_of};
 
 use simplex_base::codec::parts::{size_both, write_both};
 use simplex_base::codec::{
-    EncodeSize, Encoding, Error, Fixed, FixedSize, MaxEncodeSize, Read, ReadExt, Write,
+    EncodeSize, Encoding, Error, Fixed, MaxEncodeSize, Read, ReadExt, Write,
 };
 use simplex_base::or_return;
 use simplex_base::positions::{Round, Roundable, View};

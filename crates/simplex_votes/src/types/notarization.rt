@@ -8,9 +8,7 @@ ghost use Rattle.simplex_scheme.specs.Subject.{Notarizes};
 use crate::types::assembly::{assemble, stand_together};
 use crate::types::notarize::Notarize;
 use simplex_base::codec::parts::{size_both, write_both};
-use simplex_base::codec::{
-    EncodeSize, Encoding, Error, Fixed, FixedSize, MaxEncodeSize, Read, Write,
-};
+use simplex_base::codec::{EncodeSize, Encoding, Error, Fixed, MaxEncodeSize, Read, Write};
 use simplex_base::or_return;
 use simplex_base::positions::{Round, Roundable, View};
 use simplex_scheme::scheme::{
@@ -21,7 +19,8 @@ use std::alloc::{AllocError, Global};
 /// A proposal with a certificate of votes to notarize it, encoded in that order: at most 30 bytes,
 /// the digest's and those of the greatest certificate. It is read under the committee's bound.
 #[derive(Drop)]
-#[derive_where(PartialEq, Eq, Hash)]
+#[derive_where(PartialEq, Eq; S::Certificate)]
+#[derive_where(Hash; S::Certificate, D)]
 pub struct Notarization<S: CertificateScheme, D: Digest> {
     /// What is certified; its round is that of the message.
     pub proposal: Proposal<D>,

@@ -6,7 +6,7 @@ ghost use Rattle.simplex_scheme.specs.Subject.{Notarizes};
 
 use simplex_base::codec::parts::{size_both, write_both};
 use simplex_base::codec::{
-    EncodeSize, Encoding, Error, Fixed, FixedSize, MaxEncodeSize, Read, ReadExt, Write,
+    EncodeSize, Encoding, Error, Fixed, MaxEncodeSize, Read, ReadExt, Write,
 };
 use simplex_base::or_return;
 use simplex_base::positions::{Participant, Round, Roundable};
@@ -18,7 +18,8 @@ use std::alloc::{AllocError, Global};
 /// A vote to notarize a proposal, encoded as the proposal and the attestation: at most 35 bytes,
 /// the digest's and the signature's.
 #[derive(Drop)]
-#[derive_where(PartialEq, Eq, Hash)]
+#[derive_where(PartialEq, Eq)]
+#[derive_where(Hash; S::Signature, D)]
 pub struct Notarize<S: SchemeTypes, D: Digest> {
     /// What is voted for; its round is that of the vote.
     pub proposal: Proposal<D>,

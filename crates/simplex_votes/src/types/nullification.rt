@@ -19,7 +19,8 @@ use std::alloc::{AllocError, Global};
 /// A round with a certificate of votes to nullify it, encoded in that order: at most 20 bytes and
 /// those of the greatest certificate. It is read under the committee's bound.
 #[derive(Drop)]
-#[derive_where(PartialEq, Eq, Hash)]
+#[derive_where(PartialEq, Eq; S::Certificate)]
+#[derive_where(Hash; S::Certificate)]
 pub struct Nullification<S: CertificateScheme> {
     /// The round that is certified to be nullified.
     pub round: Round,

@@ -6,7 +6,7 @@ ghost use Rattle.simplex_scheme.specs.Subject.{Nullifies};
 
 use simplex_base::codec::parts::{size_both, write_both};
 use simplex_base::codec::{
-    EncodeSize, Encoding, Error, Fixed, FixedSize, MaxEncodeSize, Read, ReadExt, Write,
+    EncodeSize, Encoding, Error, Fixed, MaxEncodeSize, Read, ReadExt, Write,
 };
 use simplex_base::or_return;
 use simplex_base::positions::{Participant, Round, Roundable};
@@ -16,7 +16,8 @@ use std::alloc::{AllocError, Global};
 /// A vote to nullify a round, encoded as the round and the attestation: at most 25 bytes and the
 /// signature's.
 #[derive(Drop)]
-#[derive_where(PartialEq, Eq, Hash)]
+#[derive_where(PartialEq, Eq)]
+#[derive_where(Hash; S::Signature)]
 pub struct Nullify<S: SchemeTypes> {
     /// The round that is voted to be nullified.
     pub round: Round,

@@ -9,7 +9,7 @@ use crate::types::notarize::Notarize;
 use crate::types::nullify::Nullify;
 use simplex_base::codec::unions::{Tagged, read_tagged, write_tagged};
 use simplex_base::codec::{
-    EncodeSize, Encoding, Error, Fixed, FixedSize, MaxEncodeSize, Read, ReadExt, Write,
+    EncodeSize, Encoding, Error, Fixed, MaxEncodeSize, Read, ReadExt, Write,
 };
 use simplex_base::positions::{Participant, Round, Roundable};
 use simplex_scheme::scheme::{Attributable, Digest, SchemeTypes};

@@ -10,9 +10,9 @@ use Rattle.simplex_audit.proofs.ledger.write_all.Given as goal
 abbrev pub encoded : (g : goal.Over) →
     Evidence g.row.S.Denot g.row.D.Denot g.row.S-PublicKey.Denot g.row.S-Signature.Denot → List ℕ
 encoded g e =
-    activity_encoding g.D.PartialEq.eq (fixed g.D.FixedSize.SIZE g.D.Fixed.bytes_of g.D.Fixed.of_bytes)
+    activity_encoding g.D.PartialEq.eq (fixed g.D.Fixed.SIZE g.D.Fixed.bytes_of g.D.Fixed.of_bytes)
     g.S.Certificate.Encoding.encoding
-    (fixed g.S.Signature.FixedSize.SIZE g.S.Signature.Fixed.bytes_of g.S.Signature.Fixed.of_bytes) (activity_of e)
+    (fixed g.S.Signature.Fixed.SIZE g.S.Signature.Fixed.bytes_of g.S.Signature.Fixed.of_bytes) (activity_of e)
 
 abbrev pub invariant-loop-item : goal.invariant-loop-item
 invariant-loop-item g l = l.bytes.items ≡ flat_map (encoded g) (take l.item-index l.evidence)

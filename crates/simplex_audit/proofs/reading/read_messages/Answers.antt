@@ -21,12 +21,12 @@ Message g =
 -- the format of messages under a bound
 abbrev format : (g : given.Over) → ℕ → Format (Message g)
 format g bound =
-    activity_format g.D.PartialEq.eq (fixed g.D.FixedSize.SIZE g.D.Fixed.bytes_of g.D.Fixed.of_bytes)
+    activity_format g.D.PartialEq.eq (fixed g.D.Fixed.SIZE g.D.Fixed.bytes_of g.D.Fixed.of_bytes)
     (record {
       is_value = g.S.Certificate.Read.fits bound;
       encoding = g.S.Certificate.Encoding.encoding;
       reading = g.S.Certificate.Read.reading bound;
-    }) (fixed g.S.Signature.FixedSize.SIZE g.S.Signature.Fixed.bytes_of g.S.Signature.Fixed.of_bytes)
+    }) (fixed g.S.Signature.Fixed.SIZE g.S.Signature.Fixed.bytes_of g.S.Signature.Fixed.of_bytes)
 
 -- the rules by which messages are judged
 abbrev rules : (g : given.Over) → Schedule g.row.S.Denot → Judging → Rules g.row.S.Denot g.row.D.Denot

@@ -18,7 +18,7 @@ returns-clause-report g c = λ judging stream rest committees at read. record {
 
 pub returns-clause-encoded : goal.returns-clause-encoded
 returns-clause-encoded g c =
-    are_messages g.D.PartialEq.eq (fixed g.D.FixedSize.SIZE g.D.Fixed.bytes_of g.D.Fixed.of_bytes)
+    are_messages g.D.PartialEq.eq (fixed g.D.Fixed.SIZE g.D.Fixed.bytes_of g.D.Fixed.of_bytes)
     (g.S.Certificate.Read.fits (bound_of g.S.CertificateScheme.keys c.args.committees.now))
-    (fixed g.S.Signature.FixedSize.SIZE g.S.Signature.Fixed.bytes_of g.S.Signature.Fixed.of_bytes)
+    (fixed g.S.Signature.Fixed.SIZE g.S.Signature.Fixed.bytes_of g.S.Signature.Fixed.of_bytes)
     c.in_ok-evidence.evidence.items c.in_ok-evidence.ensures.encoded

@@ -4,8 +4,8 @@ use Rattle.simplex_ffi.proofs.encoding.attestations_of.Given as goal
 
 abbrev pub invariant-signers : goal.invariant-signers
 invariant-signers g l = record {
-  room : length l.rest ≡ length (drop l.signer-index l.signers) * g.S.Signature.FixedSize.SIZE;
-  made : l.attestations.items ++ attestations_by g.S.Signature.Fixed.of_bytes g.S.Signature.FixedSize.SIZE
+  room : length l.rest ≡ length (drop l.signer-index l.signers) * g.S.Signature.Fixed.SIZE;
+  made : l.attestations.items ++ attestations_by g.S.Signature.Fixed.of_bytes g.S.Signature.Fixed.SIZE
       (drop l.signer-index l.signers) l.rest
-      ≡ attestations_by g.S.Signature.Fixed.of_bytes g.S.Signature.FixedSize.SIZE l.fn.signers l.fn.signatures;
+      ≡ attestations_by g.S.Signature.Fixed.of_bytes g.S.Signature.Fixed.SIZE l.fn.signers l.fn.signatures;
 }

@@ -11,10 +11,10 @@ use Rattle.simplex_ffi.proofs.proof.judge.Given as given
 use Rattle.simplex_ffi.proofs.proof.judge.Goals as goal
 
 abbrev payload : (g : given.Over) → Format g.row.D.Denot
-payload g = fixed g.D.FixedSize.SIZE g.D.Fixed.bytes_of g.D.Fixed.of_bytes
+payload g = fixed g.D.Fixed.SIZE g.D.Fixed.bytes_of g.D.Fixed.of_bytes
 
 abbrev signature : (g : given.Over) → Format g.row.S-Signature.Denot
-signature g = fixed g.S.Signature.FixedSize.SIZE g.S.Signature.Fixed.bytes_of g.S.Signature.Fixed.of_bytes
+signature g = fixed g.S.Signature.Fixed.SIZE g.S.Signature.Fixed.bytes_of g.S.Signature.Fixed.of_bytes
 
 -- the basis of an audit
 abbrev basis : (g : given.Over) → Schedule g.row.S.Denot →

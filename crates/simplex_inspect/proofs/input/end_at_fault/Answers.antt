@@ -20,11 +20,11 @@ use Rattle.simplex_inspect.proofs.input.end_at_fault.Goals as goal
 abbrev pub lines : (g : given.Over) → Option (Schedule g.row.S.Denot) →
     Lines (Activity g.row.S.Denot g.row.D.Denot g.row.S-Certificate.Denot g.row.S-PublicKey.Denot g.row.S-Signature.Denot)
 lines g committees = let bound = bound_under g.S.CertificateScheme.keys committees in record {
-  format = activity_format g.D.PartialEq.eq (fixed g.D.FixedSize.SIZE g.D.Fixed.bytes_of g.D.Fixed.of_bytes) (record {
+  format = activity_format g.D.PartialEq.eq (fixed g.D.Fixed.SIZE g.D.Fixed.bytes_of g.D.Fixed.of_bytes) (record {
     is_value = g.S.Certificate.Read.fits bound;
     encoding = g.S.Certificate.Encoding.encoding;
     reading = g.S.Certificate.Read.reading bound;
-  }) (fixed g.S.Signature.FixedSize.SIZE g.S.Signature.Fixed.bytes_of g.S.Signature.Fixed.of_bytes);
+  }) (fixed g.S.Signature.Fixed.SIZE g.S.Signature.Fixed.bytes_of g.S.Signature.Fixed.of_bytes);
   line = line_json (shown_of g.D.Fixed.bytes_of g.S.Signature.Fixed.bytes_of (scheme_of g.D.PartialEq.eq
       g.S.CertificateScheme.keys g.S.Scheme.good
       g.S.CertificateVerifier.certified g.S.Listing.listed) committees);

@@ -1,4 +1,5 @@
-use Rattle.std.proofs.Common.{[], ◌∷◌, append-nil, refl, sym}
+use Rattle.std.proofs.Common.{[], ◌∷◌, append-nil, refl, sym, subst}
+use Rattle.std.specs.Prelude.{IfErr}
 use Rattle.simplex_monitor.proofs.HearingLemmas.{begun_look, begun_nothing, hears_hooked, hears_piece, if_err}
 use Rattle.simplex_monitor.proofs.input.hear.Goals as goal
 
@@ -25,8 +26,8 @@ returns-clause-told g c = c.looked.ensures.told c.news-news.ensures.told
 
 pub returns-clause-failed : goal.returns-clause-failed
 returns-clause-failed g c = (
-  λ failed. let wrong = c.in_ok-tell.ensures.failed.0 failed in let right = c.in_ok-tell.was in absurd cc,
-  λ e. absurd cc,
+  λ failed. absurd (subst (λ r. IfErr r (λ _. ⊥)) (c.in_ok-tell.ensures.failed.0 failed) tt),
+  λ e. absurd (subst (λ r. IfErr r (λ _. ⊥)) e tt),
 )
 
 pub returns-clause-hears : goal.returns-clause-hears

@@ -16,11 +16,11 @@ abbrev pub basis : (g : goal.Over) → Schedule g.row.S.Denot → Basis g.row.S.
     g.row.S-PublicKey.Denot g.row.S-Signature.Denot
 basis g schedule = record {
   bound = bound_of g.S.CertificateScheme.keys schedule;
-  format = activity_format g.D.PartialEq.eq (fixed g.D.FixedSize.SIZE g.D.Fixed.bytes_of g.D.Fixed.of_bytes) (record {
+  format = activity_format g.D.PartialEq.eq (fixed g.D.Fixed.SIZE g.D.Fixed.bytes_of g.D.Fixed.of_bytes) (record {
     is_value = g.S.Certificate.Read.fits (bound_of g.S.CertificateScheme.keys schedule);
     encoding = g.S.Certificate.Encoding.encoding;
     reading = g.S.Certificate.Read.reading (bound_of g.S.CertificateScheme.keys schedule);
-  }) (fixed g.S.Signature.FixedSize.SIZE g.S.Signature.Fixed.bytes_of g.S.Signature.Fixed.of_bytes);
+  }) (fixed g.S.Signature.Fixed.SIZE g.S.Signature.Fixed.bytes_of g.S.Signature.Fixed.of_bytes);
   rules = rules_of (scheme_of g.D.PartialEq.eq g.S.CertificateScheme.keys g.S.Scheme.good
       g.S.CertificateVerifier.certified g.S.Listing.listed) schedule;
 }

@@ -7,7 +7,7 @@ use Rattle.simplex_places.proofs.places.push_attestations.Given as goal
 
 abbrev pub invariant-attestations : goal.invariant-attestations
 invariant-attestations g l =
-    let signature = fixed g.S.Signature.FixedSize.SIZE g.S.Signature.Fixed.bytes_of g.S.Signature.Fixed.of_bytes in
+    let signature = fixed g.S.Signature.Fixed.SIZE g.S.Signature.Fixed.bytes_of g.S.Signature.Fixed.of_bytes in
     record {
       room : l.next + length (flat_map (attestation_format {S = g.row.S.Denot} {P = g.row.S-PublicKey.Denot} signature).encoding
           (drop l.attestation-index l.attestations)) ≡ l.fn.place + length

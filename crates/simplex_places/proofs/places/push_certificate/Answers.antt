@@ -10,7 +10,7 @@ use Rattle.simplex_places.proofs.places.push_certificate.Goals as goal
 
 -- the format of payloads
 abbrev payload : (g : given.Over) → Format g.row.D.Denot
-payload g = fixed g.D.FixedSize.SIZE g.D.Fixed.bytes_of g.D.Fixed.of_bytes
+payload g = fixed g.D.Fixed.SIZE g.D.Fixed.bytes_of g.D.Fixed.of_bytes
 
 -- the bytes of a subject, and those of a certificate behind it
 room : (place : ℕ) (subject certificate count all : List ℕ) → certificate ≡ count ++ all →
@@ -20,7 +20,7 @@ room place subject certificate count all is fits =
 
 pub overflow_add-first-2 : goal.overflow_add-first-2
 overflow_add-first-2 g c =
-    let signature = fixed g.S.Signature.FixedSize.SIZE g.S.Signature.Fixed.bytes_of g.S.Signature.Fixed.of_bytes in
+    let signature = fixed g.S.Signature.Fixed.SIZE g.S.Signature.Fixed.bytes_of g.S.Signature.Fixed.of_bytes in
     let listed = g.S.Listing.listed c.args.certificate.now in
     let count : c.size_u32.result ≡ length (number_32.encoding (length listed)) =
     c.size_u32.ensures.size ∙ ap (λ (n : ℕ). length (number_32.encoding n)) c.count.ensures in
@@ -31,7 +31,7 @@ overflow_add-first-2 g c =
 
 pub push_attestations-requires : goal.push_attestations-requires
 push_attestations-requires g c =
-    let signature = fixed g.S.Signature.FixedSize.SIZE g.S.Signature.Fixed.bytes_of g.S.Signature.Fixed.of_bytes in
+    let signature = fixed g.S.Signature.Fixed.SIZE g.S.Signature.Fixed.bytes_of g.S.Signature.Fixed.of_bytes in
     let listed = g.S.Listing.listed c.args.certificate.now in
     let count : c.size_u32.result ≡ length (number_32.encoding (length listed)) =
     c.size_u32.ensures.size ∙ ap (λ (n : ℕ). length (number_32.encoding n)) c.count.ensures in

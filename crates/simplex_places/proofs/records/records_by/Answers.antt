@@ -26,10 +26,10 @@ Message g = Activity g.row.S.Denot g.row.D.Denot g.row.S-Certificate.Denot g.row
 
 -- the formats of payloads and of signatures
 abbrev payload : (g : given.Over) → Format g.row.D.Denot
-payload g = fixed g.D.FixedSize.SIZE g.D.Fixed.bytes_of g.D.Fixed.of_bytes
+payload g = fixed g.D.Fixed.SIZE g.D.Fixed.bytes_of g.D.Fixed.of_bytes
 
 abbrev signature : (g : given.Over) → Format g.row.S-Signature.Denot
-signature g = fixed g.S.Signature.FixedSize.SIZE g.S.Signature.Fixed.bytes_of g.S.Signature.Fixed.of_bytes
+signature g = fixed g.S.Signature.Fixed.SIZE g.S.Signature.Fixed.bytes_of g.S.Signature.Fixed.of_bytes
 
 -- the format of messages under a bound
 abbrev format : (g : given.Over) → ℕ → Format (Message g)

@@ -12,8 +12,8 @@ use Rattle.simplex_places.proofs.suspects.suspects.Goals as goal
 pub returns-clause-listed : goal.returns-clause-listed
 returns-clause-listed g c =
     let committees = c.args.committees.now in
-    let payload = fixed g.D.FixedSize.SIZE g.D.Fixed.bytes_of g.D.Fixed.of_bytes in
-    let signature = fixed g.S.Signature.FixedSize.SIZE g.S.Signature.Fixed.bytes_of g.S.Signature.Fixed.of_bytes in
+    let payload = fixed g.D.Fixed.SIZE g.D.Fixed.bytes_of g.D.Fixed.of_bytes in
+    let signature = fixed g.S.Signature.Fixed.SIZE g.S.Signature.Fixed.bytes_of g.S.Signature.Fixed.of_bytes in
     let rules = rules_of (scheme_of g.D.PartialEq.eq g.S.CertificateScheme.keys g.S.Scheme.good
     g.S.CertificateVerifier.certified g.S.Listing.listed) committees in
     let size : ℕ → ℕ = λ epoch. size_by g.S.CertificateScheme.keys (committee_of committees epoch) in

@@ -15,7 +15,7 @@ pub returns : goal.returns
 returns g c stream found are =
     let eq = g.D.PartialEq.eq in
     let committees = c.args.committees.now in
-    let payload = fixed g.D.FixedSize.SIZE g.D.Fixed.bytes_of g.D.Fixed.of_bytes in
+    let payload = fixed g.D.Fixed.SIZE g.D.Fixed.bytes_of g.D.Fixed.of_bytes in
     let signature : Format (List ℕ) = fixed g.row.N (λ bytes. bytes) (λ bytes. bytes) in
     let signatures =
     fixed_lawful g.row.N (λ (bytes : List ℕ). bytes) (λ bytes. bytes) (λ bytes fits. refl) (λ bytes fits. refl) in

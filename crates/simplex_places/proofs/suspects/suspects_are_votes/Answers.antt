@@ -11,8 +11,8 @@ use Rattle.simplex_places.proofs.suspects.suspects_are_votes.Goals as goal
 pub returns : goal.returns
 returns g c committees stream found are =
     let eq = g.D.PartialEq.eq in
-    let payload = fixed g.D.FixedSize.SIZE g.D.Fixed.bytes_of g.D.Fixed.of_bytes in
-    let signature = fixed g.S.Signature.FixedSize.SIZE g.S.Signature.Fixed.bytes_of g.S.Signature.Fixed.of_bytes in
+    let payload = fixed g.D.Fixed.SIZE g.D.Fixed.bytes_of g.D.Fixed.of_bytes in
+    let signature = fixed g.S.Signature.Fixed.SIZE g.S.Signature.Fixed.bytes_of g.S.Signature.Fixed.of_bytes in
     let listed = g.S.Listing.listed in
     let rules = rules_of (scheme_of g.D.PartialEq.eq g.S.CertificateScheme.keys g.S.Scheme.good
     g.S.CertificateVerifier.certified g.S.Listing.listed) committees in

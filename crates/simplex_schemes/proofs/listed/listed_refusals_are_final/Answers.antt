@@ -5,5 +5,5 @@ use Rattle.simplex_schemes.proofs.listed.listed_refusals_are_final.Goals as goal
 
 pub returns : goal.returns
 returns g c bound =
-    listed_final (fixed g.S.Signature.FixedSize.SIZE g.S.Signature.Fixed.bytes_of g.S.Signature.Fixed.of_bytes) bound
-    (fixed_final g.S.Signature.FixedSize.SIZE g.S.Signature.Fixed.of_bytes)
+    listed_final (fixed g.S.Signature.Fixed.SIZE g.S.Signature.Fixed.bytes_of g.S.Signature.Fixed.of_bytes) bound
+    (fixed_final g.S.Signature.Fixed.SIZE g.S.Signature.Fixed.of_bytes)

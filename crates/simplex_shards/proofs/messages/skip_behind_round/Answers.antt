@@ -7,7 +7,7 @@ use Rattle.simplex_shards.proofs.messages.skip_behind_round.Goals as goal
 
 -- the formats of payloads, of certificates under a bound and of signatures
 abbrev payload : (g : given.Over) → Format g.row.D.Denot
-payload g = fixed g.D.FixedSize.SIZE g.D.Fixed.bytes_of g.D.Fixed.of_bytes
+payload g = fixed g.D.Fixed.SIZE g.D.Fixed.bytes_of g.D.Fixed.of_bytes
 
 abbrev certificate : (g : given.Over) → ℕ → Format g.row.S-Certificate.Denot
 certificate g bound = record {
@@ -17,7 +17,7 @@ certificate g bound = record {
 }
 
 abbrev signature : (g : given.Over) → Format g.row.S-Signature.Denot
-signature g = fixed g.S.Signature.FixedSize.SIZE g.S.Signature.Fixed.bytes_of g.S.Signature.Fixed.of_bytes
+signature g = fixed g.S.Signature.Fixed.SIZE g.S.Signature.Fixed.bytes_of g.S.Signature.Fixed.of_bytes
 
 pub returns-in-0 : goal.returns-in-0
 returns-in-0 g c =

@@ -4,6 +4,6 @@ use Rattle.simplex_shards.proofs.skips.skip_attestation.Goals as goal
 
 pub returns : goal.returns
 returns g c =
-    skipped_attestation (fixed g.S.Signature.FixedSize.SIZE g.S.Signature.Fixed.bytes_of g.S.Signature.Fixed.of_bytes)
+    skipped_attestation (fixed g.S.Signature.Fixed.SIZE g.S.Signature.Fixed.bytes_of g.S.Signature.Fixed.of_bytes)
     c.args.bytes.now c.in_ok-signer.rest.now c.in_ok-skip_fixed.field-0.now c.in_ok-signer.signer c.in_ok-signer.ensures
     c.in_ok-skip_fixed.ensures

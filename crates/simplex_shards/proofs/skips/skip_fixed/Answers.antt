@@ -7,5 +7,5 @@ pub returns : goal.returns
 returns g c =
     let rest : c.in-Some.rest.now ≡ drop c.SIZE.result c.args.bytes.now =
     grind (arith, common_steps, c.in-Some.ensures.lookup) in
-    skipped_fixed g.T.FixedSize.SIZE c.SIZE.result g.T.Fixed.of_bytes c.args.bytes.now c.in-Some.rest.now c.SIZE.ensures
+    skipped_fixed g.T.Fixed.SIZE c.SIZE.result g.T.Fixed.of_bytes c.args.bytes.now c.in-Some.rest.now c.SIZE.ensures
     (grind (arith, common_steps, c.in-Some.ensures.lookup)) rest

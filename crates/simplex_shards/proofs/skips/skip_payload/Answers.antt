@@ -7,5 +7,5 @@ use Rattle.simplex_shards.proofs.skips.skip_payload.Goals as goal
 pub returns : goal.returns
 returns g c =
     IfSome_then c.skip_fixed.result c.skip_fixed.ensures (λ rest skipped.
-    skipped_both number_64.reading (fixed_at g.D.FixedSize.SIZE g.D.Fixed.of_bytes) c.args.bytes.now c.in_ok-rest.rest.now
+    skipped_both number_64.reading (fixed_at g.D.Fixed.SIZE g.D.Fixed.of_bytes) c.args.bytes.now c.in_ok-rest.rest.now
     rest.now c.in_ok-rest.field-0-0 c.in_ok-rest.ensures skipped)

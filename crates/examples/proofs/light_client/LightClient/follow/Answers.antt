@@ -15,7 +15,7 @@ returns-clause-follows g c =
     g.S.CertificateVerifier.certified g.S.Listing.listed) in (
       f,
       c.in_ok-finalization.ensures.encoded,
-      value_outside (fixed g.D.FixedSize.SIZE g.D.Fixed.bytes_of g.D.Fixed.of_bytes) g.S.Certificate.Read.fits
+      value_outside (fixed g.D.Fixed.SIZE g.D.Fixed.bytes_of g.D.Fixed.of_bytes) g.S.Certificate.Read.fits
           g.S.CertificateScheme.keys _ _ f c.self.view_is c.in_ok-finalization.ensures.value,
       subst (λ b. Follows (rules b.committees) b.latest f followed) c.self.view_is
           (subst (λ l. Follows (rules inside.committees.now) l f followed) c.as_ref.ensures.value

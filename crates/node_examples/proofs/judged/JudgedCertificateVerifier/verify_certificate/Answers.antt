@@ -15,9 +15,9 @@ returns-clause-certified g c =
       | in-Finalize w ↦ let a = w.in-Finalize.is in let b = w.subject2-is in cc
     ] in
     c.is_certified.ensures ∙ ap (λ s. is_quorum (length c.args.self.now.keys) (judged_good
-    (fixed g.D.FixedSize.SIZE g.D.Fixed.bytes_of g.D.Fixed.of_bytes) c.args.self.now s) c.args.certificate.now) same
+    (fixed g.D.Fixed.SIZE g.D.Fixed.bytes_of g.D.Fixed.of_bytes) c.args.self.now s) c.args.certificate.now) same
 
 pub returns-clause-exactly : goal.returns-clause-exactly
 returns-clause-exactly g c =
-    rw (returns-clause-certified g c) (quorum_meaning (length c.args.self.now.keys) (judged_good (fixed g.D.FixedSize.SIZE
+    rw (returns-clause-certified g c) (quorum_meaning (length c.args.self.now.keys) (judged_good (fixed g.D.Fixed.SIZE
     g.D.Fixed.bytes_of g.D.Fixed.of_bytes) c.args.self.now (subject_value c.args.subject)) c.args.certificate.now)

@@ -19,9 +19,9 @@ Message g =
 
 -- which messages can be encoded
 abbrev is_value : (g : given.Over) → Message g → Type 0
-is_value g = IsActivity g.D.PartialEq.eq (fixed g.D.FixedSize.SIZE g.D.Fixed.bytes_of g.D.Fixed.of_bytes)
+is_value g = IsActivity g.D.PartialEq.eq (fixed g.D.Fixed.SIZE g.D.Fixed.bytes_of g.D.Fixed.of_bytes)
     g.S.Certificate.Encoding.is_value
-    (fixed g.S.Signature.FixedSize.SIZE g.S.Signature.Fixed.bytes_of g.S.Signature.Fixed.of_bytes)
+    (fixed g.S.Signature.Fixed.SIZE g.S.Signature.Fixed.bytes_of g.S.Signature.Fixed.of_bytes)
 
 -- the scheme of an audit
 abbrev scheme : (g : given.Over) → Scheme g.row.S.Denot g.row.D.Denot g.row.S-Certificate.Denot g.row.S-PublicKey.Denot
@@ -32,11 +32,11 @@ scheme g = scheme_of g.D.PartialEq.eq g.S.CertificateScheme.keys g.S.Scheme.good
 -- the format of messages under a bound
 abbrev format : (g : given.Over) → ℕ → Format (Message g)
 format g bound =
-    activity_format g.D.PartialEq.eq (fixed g.D.FixedSize.SIZE g.D.Fixed.bytes_of g.D.Fixed.of_bytes) (record {
+    activity_format g.D.PartialEq.eq (fixed g.D.Fixed.SIZE g.D.Fixed.bytes_of g.D.Fixed.of_bytes) (record {
       is_value = g.S.Certificate.Read.fits bound;
       encoding = g.S.Certificate.Encoding.encoding;
       reading = g.S.Certificate.Read.reading bound;
-    }) (fixed g.S.Signature.FixedSize.SIZE g.S.Signature.Fixed.bytes_of g.S.Signature.Fixed.of_bytes)
+    }) (fixed g.S.Signature.Fixed.SIZE g.S.Signature.Fixed.bytes_of g.S.Signature.Fixed.of_bytes)
 
 -- the basis of an audit
 abbrev whole : (g : given.Over) → Schedule g.row.S.Denot → Basis g.row.S.Denot g.row.D.Denot g.row.S-Certificate.Denot

@@ -8,8 +8,8 @@ use Rattle.simplex_audit.proofs.compaction.CompactorVisitorActivity.take.Goals a
 
 pub returns : goal.returns
 returns g c =
-    let payload = fixed g.D.FixedSize.SIZE g.D.Fixed.bytes_of g.D.Fixed.of_bytes in
-    let signature = fixed g.S.Signature.FixedSize.SIZE g.S.Signature.Fixed.bytes_of g.S.Signature.Fixed.of_bytes in
+    let payload = fixed g.D.Fixed.SIZE g.D.Fixed.bytes_of g.D.Fixed.of_bytes in
+    let signature = fixed g.S.Signature.Fixed.SIZE g.S.Signature.Fixed.bytes_of g.S.Signature.Fixed.of_bytes in
     when_both c.append_news.result
     (compacts_one (IsActivity g.D.PartialEq.eq payload g.S.Certificate.Encoding.is_value signature)
     (activity_encoding g.D.PartialEq.eq payload g.S.Certificate.Encoding.encoding signature)

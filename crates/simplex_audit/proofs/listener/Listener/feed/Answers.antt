@@ -11,12 +11,12 @@ use Rattle.simplex_audit.proofs.listener.Listener.feed.Goals as goal
 abbrev format : (g : given.Over) → ℕ → Format (Activity g.row.S.Denot g.row.D.Denot g.row.S-Certificate.Denot
     g.row.S-PublicKey.Denot g.row.S-Signature.Denot)
 format g bound =
-    activity_format g.D.PartialEq.eq (fixed g.D.FixedSize.SIZE g.D.Fixed.bytes_of g.D.Fixed.of_bytes)
+    activity_format g.D.PartialEq.eq (fixed g.D.Fixed.SIZE g.D.Fixed.bytes_of g.D.Fixed.of_bytes)
     (record {
       is_value = g.S.Certificate.Read.fits bound;
       encoding = g.S.Certificate.Encoding.encoding;
       reading = g.S.Certificate.Read.reading bound;
-    }) (fixed g.S.Signature.FixedSize.SIZE g.S.Signature.Fixed.bytes_of g.S.Signature.Fixed.of_bytes)
+    }) (fixed g.S.Signature.Fixed.SIZE g.S.Signature.Fixed.bytes_of g.S.Signature.Fixed.of_bytes)
 
 pub returns-clause-hears : goal.returns-clause-hears
 returns-clause-hears g c =

@@ -6,7 +6,7 @@ abbrev pub invariant-signers : goal.invariant-signers
 invariant-signers g l = record {
   appended : map evidence_value l.found.items ≡ map evidence_value l.fn.found.items
       ++ flat_map (λ signer. found_at g.D.PartialEq.eq (slots l.self signer)) (take l.signer-index l.signer-items);
-  encoded : StayEncoded g.D.PartialEq.eq (fixed g.D.FixedSize.SIZE g.D.Fixed.bytes_of g.D.Fixed.of_bytes)
-      (fixed g.S.Signature.FixedSize.SIZE g.S.Signature.Fixed.bytes_of g.S.Signature.Fixed.of_bytes)
+  encoded : StayEncoded g.D.PartialEq.eq (fixed g.D.Fixed.SIZE g.D.Fixed.bytes_of g.D.Fixed.of_bytes)
+      (fixed g.S.Signature.Fixed.SIZE g.S.Signature.Fixed.bytes_of g.S.Signature.Fixed.of_bytes)
       l.fn.found.items l.found.items;
 }

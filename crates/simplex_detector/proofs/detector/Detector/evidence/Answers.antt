@@ -5,8 +5,8 @@ use Rattle.simplex_detector.proofs.detector.Detector.evidence.Goals as goal
 
 pub rounds-init : goal.rounds-init
 rounds-init g c =
-    let P = IsEncoded g.D.PartialEq.eq (fixed g.D.FixedSize.SIZE g.D.Fixed.bytes_of g.D.Fixed.of_bytes)
-    (fixed g.S.Signature.FixedSize.SIZE g.S.Signature.Fixed.bytes_of g.S.Signature.Fixed.of_bytes) in
+    let P = IsEncoded g.D.PartialEq.eq (fixed g.D.Fixed.SIZE g.D.Fixed.bytes_of g.D.Fixed.of_bytes)
+    (fixed g.S.Signature.Fixed.SIZE g.S.Signature.Fixed.bytes_of g.S.Signature.Fixed.of_bytes) in
     record {
       walked = record {
         steps = [];

@@ -18,12 +18,12 @@ use Rattle.simplex_monitor.proofs.monitor.Monitor.shorten.Goals as goal
 abbrev format : (g : given.Over) → ℕ → Format (Activity g.row.S.Denot g.row.D.Denot g.row.S-Certificate.Denot
     g.row.S-PublicKey.Denot g.row.S-Signature.Denot)
 format g bound =
-    activity_format g.D.PartialEq.eq (fixed g.D.FixedSize.SIZE g.D.Fixed.bytes_of g.D.Fixed.of_bytes)
+    activity_format g.D.PartialEq.eq (fixed g.D.Fixed.SIZE g.D.Fixed.bytes_of g.D.Fixed.of_bytes)
     (record {
       is_value = g.S.Certificate.Read.fits bound;
       encoding = g.S.Certificate.Encoding.encoding;
       reading = g.S.Certificate.Read.reading bound;
-    }) (fixed g.S.Signature.FixedSize.SIZE g.S.Signature.Fixed.bytes_of g.S.Signature.Fixed.of_bytes)
+    }) (fixed g.S.Signature.Fixed.SIZE g.S.Signature.Fixed.bytes_of g.S.Signature.Fixed.of_bytes)
 
 pub returns-clause-short : goal.returns-clause-short
 returns-clause-short g c start committees told stream listens =
@@ -34,8 +34,8 @@ returns-clause-short g c start committees told stream listens =
     holds_short _ floor listens.taken c.in-Some.held.items c.in_ok-kept.kept (λ m. omega arith)
     (taken_values _ c.args.self.now start committees told stream listens)
     (λ m is. c.rounds_are_independent.ensures.whole rules m (in_conflict g.D.PartialEq.eq
-    (fixed g.D.FixedSize.SIZE g.D.Fixed.bytes_of g.D.Fixed.of_bytes) (g.S.Certificate.Read.fits bound)
-    (fixed g.S.Signature.FixedSize.SIZE g.S.Signature.Fixed.bytes_of g.S.Signature.Fixed.of_bytes) m is))
+    (fixed g.D.Fixed.SIZE g.D.Fixed.bytes_of g.D.Fixed.of_bytes) (g.S.Certificate.Read.fits bound)
+    (fixed g.S.Signature.Fixed.SIZE g.S.Signature.Fixed.bytes_of g.S.Signature.Fixed.of_bytes) m is))
     (λ messages one. c.rounds_are_independent.ensures.alone rules (is_from floor) messages one)
     (λ messages are. c.in_ok-kept.ensures messages
     (subst (λ (n : ℕ). AreMessages (format g n) c.as_slice.result.now messages []) (sym listens.bound_is)

@@ -22,9 +22,9 @@ returns-clause-bounded g c start committees told stream listens =
     few_votes _ c.args.self.now start committees told stream c.votes.result listens
     (returns-clause-number g c start committees told stream listens)
     (λ m is. c.rounds_are_independent.ensures.whole rules m (in_conflict g.D.PartialEq.eq
-    (fixed g.D.FixedSize.SIZE g.D.Fixed.bytes_of g.D.Fixed.of_bytes)
+    (fixed g.D.Fixed.SIZE g.D.Fixed.bytes_of g.D.Fixed.of_bytes)
     (g.S.Certificate.Read.fits (bound_of g.S.CertificateScheme.keys committees))
-    (fixed g.S.Signature.FixedSize.SIZE g.S.Signature.Fixed.bytes_of g.S.Signature.Fixed.of_bytes) m is))
+    (fixed g.S.Signature.Fixed.SIZE g.S.Signature.Fixed.bytes_of g.S.Signature.Fixed.of_bytes) m is))
     (λ judged messages same members round. c.few_votes_are_recorded.ensures.round judged messages
     (subst IsEquivalence (sym same) g.met.D.Eq.laws) members round)
     (λ part. c.rounds_are_independent.ensures.committees rules part listens.members)

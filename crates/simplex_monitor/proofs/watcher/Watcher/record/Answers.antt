@@ -34,9 +34,9 @@ returns g c =
     (λ ms. c.news_suffices.ensures.compaction judged ms g.met.D.Eq.laws)
     (λ ms k. c.news_suffices.ensures.next judged ms k)
     c.in_ok-kept-in-Some.ensures.kept written
-    (fits_kept g.D.PartialEq.eq (fixed g.D.FixedSize.SIZE g.D.Fixed.bytes_of g.D.Fixed.of_bytes)
+    (fits_kept g.D.PartialEq.eq (fixed g.D.Fixed.SIZE g.D.Fixed.bytes_of g.D.Fixed.of_bytes)
     g.S.Certificate.Encoding.is_value
     (g.S.Certificate.Read.fits (bound_of g.S.CertificateScheme.keys c.args.committees.now))
-    (fixed g.S.Signature.FixedSize.SIZE g.S.Signature.Fixed.bytes_of g.S.Signature.Fixed.of_bytes)
+    (fixed g.S.Signature.Fixed.SIZE g.S.Signature.Fixed.bytes_of g.S.Signature.Fixed.of_bytes)
     judged c.args.message.now kept values)))
     c.append_news.ensures.written c.append_news.ensures.values

@@ -13,8 +13,8 @@ returns g c =
     let eq = g.K.PartialEq.eq in
     let key_of = g.K.Key.key_of in
     let listed = g.S.Listing.listed in
-    let places = message_places (fixed g.D.FixedSize.SIZE g.D.Fixed.bytes_of g.D.Fixed.of_bytes)
-    (fixed g.S.Signature.FixedSize.SIZE g.S.Signature.Fixed.bytes_of g.S.Signature.Fixed.of_bytes) listed in
+    let places = message_places (fixed g.D.Fixed.SIZE g.D.Fixed.bytes_of g.D.Fixed.of_bytes)
+    (fixed g.S.Signature.Fixed.SIZE g.S.Signature.Fixed.bytes_of g.S.Signature.Fixed.of_bytes) listed in
     let place = c.args.self.now.place in
     let all = places place c.args.message.now in
     let placed : c.deref.result.now ≡ all =

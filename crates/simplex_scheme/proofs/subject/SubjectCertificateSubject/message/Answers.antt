@@ -6,7 +6,7 @@ use Rattle.simplex_scheme.proofs.subject.SubjectCertificateSubject.message.Given
 use Rattle.simplex_scheme.proofs.subject.SubjectCertificateSubject.message.Goals as goal
 
 -- a digest's format is lawful
-law : (g : given.Over) → IsLawful (fixed g.D.FixedSize.SIZE g.D.Fixed.bytes_of g.D.Fixed.of_bytes)
+law : (g : given.Over) → IsLawful (fixed g.D.Fixed.SIZE g.D.Fixed.bytes_of g.D.Fixed.of_bytes)
 law g = fixed_lawful _ _ _ g.met.D.Fixed.back g.met.D.Fixed.forth
 
 pub returns-in-Notarize-clause-one : goal.returns-in-Notarize-clause-one

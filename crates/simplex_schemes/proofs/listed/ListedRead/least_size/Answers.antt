@@ -14,7 +14,7 @@ returns-then-SIZE-rest g c =
     (subst IsBytes (sym same) c.known_bytes-rest.ensures.range) c.in-Ok.ensures.gives in
     let size = c.SIZE.ensures in
     let long = c.if-SIZE-rest.true in
-    skimmed_least _ law g.S.Signature.FixedSize.SIZE (λ s value. value.len) c.args.bound.now c.in-Ok.count
+    skimmed_least _ law g.S.Signature.Fixed.SIZE (λ s value. value.len) c.args.bound.now c.in-Ok.count
     c.skim-left.result.1 _ c.args.bytes.now c.read_u32.new.input.now c.skim-left.result.0.now (sym same ∙ read.parts)
     read.value c.skim-left.ensures.refused (inr (c.if-left-gt0.true, omega arith))
 
@@ -28,7 +28,7 @@ returns g c =
     let len = ap length parts in
     let within = c.skim-left.ensures.within in
     let missing = rw c.SIZE-2.ensures at c.saturating_mul.ensures in
-    skimmed_least _ law g.S.Signature.FixedSize.SIZE (λ s value. value.len) c.args.bound.now c.in-Ok.count
+    skimmed_least _ law g.S.Signature.Fixed.SIZE (λ s value. value.len) c.args.bound.now c.in-Ok.count
     c.skim-left.result.1 c.saturating_add.result c.args.bytes.now c.read_u32.new.input.now c.skim-left.result.0.now parts
     read.value c.skim-left.ensures.refused
     (inl (omega (

@@ -8,7 +8,7 @@ use Rattle.simplex_schemes.proofs.plain.PlainCertificateVerifier.verify_certific
 
 pub returns-clause-exactly : goal.returns-clause-exactly
 returns-clause-exactly g c =
-    let good = plain_good (fixed g.D.FixedSize.SIZE g.D.Fixed.bytes_of g.D.Fixed.of_bytes) c.args.self.now
+    let good = plain_good (fixed g.D.Fixed.SIZE g.D.Fixed.bytes_of g.D.Fixed.of_bytes) c.args.self.now
     (subject_value c.args.subject) in
     let tested : c.is_certified.result ≡ is_quorum (length c.args.self.now.keys) good c.args.certificate.now = search rules in
     rw tested (quorum_meaning (length c.args.self.now.keys) good c.args.certificate.now)

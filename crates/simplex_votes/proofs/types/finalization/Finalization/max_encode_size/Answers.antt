@@ -4,7 +4,7 @@ use Rattle.simplex_votes.proofs.types.finalization.Finalization.max_encode_size.
 
 pub returns-clause-within : goal.returns-clause-within
 returns-clause-within g c n h =
-    let most = proposed_within g.D.FixedSize.SIZE (g.S.CertificateScheme.max_size c.args.participants) g.D.Fixed.bytes_of
+    let most = proposed_within g.D.Fixed.SIZE (g.S.CertificateScheme.max_size c.args.participants) g.D.Fixed.bytes_of
     g.D.Fixed.of_bytes (g.S.Certificate.Read.fits c.args.participants) g.S.Certificate.Encoding.encoding
     (λ certificate. g.met.S.CertificateScheme.certificates_within c.args.participants certificate (omega arith)) n.proposal
     n.certificate h.0 h.1 in
