@@ -60,9 +60,9 @@ def end_of_head(lines, number, lead):
     for at in range(number, len(lines)):
         line = lines[at].partition(" //")[0]
         begins = line.startswith(lead) and line[len(lead)] != " " and line.endswith(("{", "}"))
-        if not depth and (begins or line.endswith(";")):
+        before, depth = depth, depth + line.count("{") - line.count("}")
+        if (begins and not before) or (line.endswith(";") and not depth):
             return at
-        depth += line.count("{") - line.count("}")
     raise ValueError(f"a function without an end: {lines[number]}")
 
 

@@ -4,8 +4,8 @@ A mutant is an edit of mutants/CRATE/, or of mutants/CRATE/gate/, which the gate
 it changes. CRATE/NAME stands for one mutant, `--all` for those of all crates. One check tries mutants of several functions at
 once, and what was found is kept under `~/.cache`. mutants/refused.txt has the day when this step last saw each refused.
 
-A check that is killed, as for want of memory, is run once more, and says nothing if it is killed again. If the prover gives up
-at a limit of its own, the mutant that was tried alone counts as refused, and its line says so.
+A check that is killed, as when memory runs out, is run once more. If it is killed again the step ends: its mutants are not
+tried.
 
 Two controls show that it is the mutants that are refused. The functions of a batch are first checked as they stand, and have to
 be proved. An edit of mutants/CRATE/gate/same/ means the same as what it changes: tried beside mutants, it must not be refused.
@@ -36,8 +36,6 @@ KEPT = pathlib.Path(os.environ.get("XDG_CACHE_HOME") or pathlib.Path.home() / ".
 PROVED = re.compile(r"only=(\d+) proved=\1$")
 ERROR = re.compile(r"(?:\./)?(\S+)\.(?:antt|rt):\d+:\d+: (error: .*)")
 GOAL = re.compile(r"note: (src/\S+):(\d+):\d+: (it is not proved .*)")
-# that the prover gave up at a limit of its own, which it meets wherever it checks the same
-LIMIT = re.compile(r"antt ran out of (stack|the (steps|memory) that )|(outgrew the memory limit|stopped at the step limit) \(")
 # that a text speaks of what is no longer there, or cannot be read
 GONE = re.compile(r"error: .*(has no (field|`)|is no(t in scope| name)|was not admitted|operand is missing|cannot continue)")
 
@@ -130,10 +128,7 @@ class Trial:
         """Why a mutant is refused that was tried alone, if no goal and no answer of its function says so."""
         if mutant.means_the_same:
             return "" if is_proved(said) else "it is not proved"
-        limit = next(filter(LIMIT.search, said), "")
-        if limit or mutant.turned()[1]:
-            return limit and f"only by a limit of the prover: {limit}"
-        return mutant.reason(refusals(self.check(texts, ()), texts))
+        return "" if mutant.turned()[1] else mutant.reason(refusals(self.check(texts, ()), texts))
 
 
 def is_proved(said):
