@@ -35,14 +35,19 @@ class Edit:
             texts[path] = texts[path].replace(old, new)
         return texts, ""
 
-    def turned(self):
-        """The names of the functions that it changes, and whether it changes one alone and nothing else."""
+    def places(self):
+        """The functions that it changes, and None if it changes what is none."""
         found = set()
         for path, old, _ in self.pairs:
             text = self.text(path)
             line = text.count("\n", 0, text.find(old)) if text.count(old) == 1 else None
-            found.add(next((it.name for it in functions(path, text) if line in it.body), None))
-        return found - {None}, len(found) == 1 and None not in found
+            found.add(next((it for it in functions(path, text) if line in it.body), None))
+        return found
+
+    def turned(self):
+        """The names of the functions that it changes, and whether it changes one alone and nothing else."""
+        found = self.places()
+        return {it.name for it in found - {None}}, len(found) == 1 and None not in found
 
     def reason(self, refusals):
         """Why it is refused by these refusals of functions: by one of its function, or by any if it changes more than one."""

@@ -7,8 +7,9 @@ once, and what was found is kept under `~/.cache`. mutants/refused.txt has the d
 A check that is killed, as when memory runs out, is run once more. If it is killed again the step ends: its mutants are not
 tried.
 
-Two controls show that it is the mutants that are refused. The functions of a batch are first checked as they stand, and have to
-be proved. An edit of mutants/CRATE/gate/same/ means the same as what it changes: tried beside mutants, it must not be refused.
+Two controls show that it is the mutants that are refused. The shortest of the functions that a crate's mutants change is first
+checked as it stands, and has to be proved, as `rt ci` proves all. An edit of mutants/CRATE/gate/same/ means the same as what it
+changes: tried beside mutants, it must not be refused.
 """
 
 import concurrent.futures
@@ -105,9 +106,10 @@ class Trial:
         return done.stdout.splitlines()
 
     def stands(self, mutants):
-        """Whether the functions that these change, and what they call, are proved as they stand."""
-        names = changed(mutants)
-        return not names or is_proved(self.check({}, names))
+        """Whether the shortest of the functions that these change, and what it calls, is proved as it stands."""
+        found = {place for it in mutants for place in it.places()} - {None}
+        shortest = min(found, key=lambda it: (len(it.lines), it.name), default=None)
+        return not shortest or is_proved(self.check({}, [shortest.name]))
 
     def batch(self, mutants):
         """Tries mutants at once: yields each, with why the prover refuses it, or nothing where it does not. It says nothing of

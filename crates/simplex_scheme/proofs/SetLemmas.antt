@@ -1,5 +1,6 @@
 -- What a sort followed by a `dedup` leaves, and where a search of ascending keys ends.
 use Rattle.std.proofs.Common.{◌≡◌, ℕ, zero, suc, ◌+◌, ◌<◌, ◌≤◌, Bool, false, List, [], ◌∷◌, length, cond, refl, sym, ap, subst, ◌∙◌, arith, Ordering, Less, Equal, Greater, Ok, Err, Result, All, IsPermutation, ⊎_elim, Option, IfNone, IfSome, IfOk, IsTrue, ◌↔◌, true}
+use Rattle.std.specs.Prelude.{MatchResult}
 use Rattle.std.specs.List.{dedup, dedup_from, IsAllAdjacentAnswer, IsDistinct, HoldsAt, slice_get}
 use Rattle.std.specs.Option.{IsSomeAnd}
 use Rattle.std.specs.List.Retain.{IsFiltered, DiffersFromLast}
@@ -111,6 +112,12 @@ pub found_at : {X : Type 0} (P : X → Type 0) (xs : List X) (i : ℕ) → i < l
 found_at P [] i lt h = absurd (omega arith)
 found_at P (x ∷ xs) zero lt h = h x
 found_at P (x ∷ xs) (suc i) lt h = found_at P xs i (omega arith) (λ d. h d)
+
+-- what a search says where it ends at a place
+pub met_of : {A E : Type 0} (P : A → Type 0) (Q : E → Type 0) (searched : Result A E) → MatchResult searched P Q →
+    IfOk searched P
+met_of P Q (Ok at) is = is
+met_of P Q (Err at) is = tt
 
 -- where a search ends, there is an equal key
 pub found_where_met : {K : Type 0} {E : K → K → Bool} (order : K → K → Ordering) → ((a b : K) → E a b ≡ eq_by_cmp order a b) →

@@ -1,8 +1,12 @@
 //! The keys of a committee.
 
 ghost use Rattle.std.specs.Prelude.{◌≡◌, ◌↔◌, ◌==◌, List, length, IsPermutation, IsOk, IsTrue, IfOk, IfSome, IfNone, IsSomeAnd, All, slice_get, option_copied, false, true};
+ghost use Rattle.std.specs.Cmp.{IsTotalOrder};
 ghost use Rattle.std.specs.List.{IsDistinct};
+ghost use Rattle.std.specs.Ordering.{eq_by_cmp};
+ghost use Rattle.std.specs.declared.cmp.Ordering.{Ordering};
 
+use std::cmp::Ordering;
 use std::marker::Model;
 use thiserror::Error;
 
@@ -14,16 +18,27 @@ pub enum SetError {
     Repeated,
 }
 
-/// A type with an order, of which contracts alone speak. There is nothing to call, and every type that is `Ord` is one.
+/// A type with a total order, as every type has that is `Ord`.
 pub trait Ordered {
-    ghost use Rattle.std.specs.declared.cmp.Ordering.{Ordering};
-
     /// How two values compare.
     ghost order: { Self → Self → Ordering };
+
+    /// How two values compare.
+    fn compare(&self, other: &Self) -> Ordering
+        ensures { result ≡ order self.now other.now };
+
+    /// The order is total.
+    ghost total: { IsTotalOrder order };
 }
 
 impl<T: Ord> Ordered for T {
     ghost order = { T.cmp };
+
+    fn compare(&self, other: &T) -> Ordering {
+        self.cmp(other)
+    }
+
+    ghost total = { T.total };
 }
 
 /// Distinct keys in ascending order. A participant's number is the place of its key.
@@ -78,15 +93,6 @@ impl<K: Ord> Set<K> {
     {
         Set { keys }
     }
-
-    /// The place of a key, if it is in the set.
-    pub fn position(&self, key: &K) -> Option<usize>
-        ensures found { IfSome result (λ place.
-            IsSomeAnd (slice_get self.now place) (λ one. K.eq one key.now ≡ true)) }
-        ensures none { IfNone result (All (λ one. K.eq one key.now ≡ false) self.now) }
-    {
-        self.keys.binary_search(key).ok()
-    }
 }
 
 impl<K: Ordered> Set<K> {
@@ -109,5 +115,14 @@ impl<K: Ordered> Set<K> {
         ensures { option_copied result ≡ slice_get self.now place }
     {
         self.keys.get(place)
+    }
+
+    /// The place of a key, if one of the set compares equal to it.
+    pub fn position(&self, key: &K) -> Option<usize>
+        ensures found { IfSome result (λ place.
+            IsSomeAnd (slice_get self.now place) (λ one. eq_by_cmp K.order one key.now ≡ true)) }
+        ensures none { IfNone result (All (λ one. eq_by_cmp K.order one key.now ≡ false) self.now) }
+    {
+        self.keys.binary_search_by(|one| one.compare(key)).ok()
     }
 }

@@ -1,5 +1,6 @@
-use Rattle.std.proofs.Common.{arith, ◌≡◌, ◌<◌, length}
-use Rattle.simplex_schemes.proofs.PlainLemmas.{key_at, not_outside}
+use Rattle.std.proofs.Common.{arith, rules, ◌≡◌, ◌<◌, length}
+use Rattle.simplex_schemes.proofs.PlainLemmas.{key_at, none_is, not_outside}
+use Rattle.std.proofs.lemmas.List.Elements.{All-weaker}
 use Rattle.simplex_schemes.proofs.plain.Plain.signer.Goals as goal
 
 pub returns-in_err-namespace-clause-outside : goal.returns-in_err-namespace-clause-outside
@@ -24,3 +25,12 @@ invariant_of-result c = (
 
 pub returns-clause-outside : goal.returns-clause-outside
 returns-clause-outside c none = absurd (not_outside _ _ _ c.in-Some.ensures.found none)
+
+pub returns-in_default-clause-inside : goal.returns-in_default-clause-inside
+returns-in_default-clause-inside c =
+    All-weaker _ _ (λ one. none_is one c.args.key.now) c.args.participants c.in_default.ensures.none
+
+pub returns-clause-inside : goal.returns-clause-inside
+returns-clause-inside c =
+    let at = key_at c.args.participants c.in-Some.place c.args.key.now c.in-Some.ensures.found in
+    (c.in-Some.place, at.1, search rules)
