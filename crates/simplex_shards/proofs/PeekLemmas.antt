@@ -1,5 +1,5 @@
 -- Messages that are peeked at, and those that are decoded.
-use Rattle.std.proofs.Common.{◌≡◌, ℕ, ◌+◌, ◌-◌, Bool, List, length, Ok, refl, ap, subst, ◌∙◌, arith, length-append}
+use Rattle.std.proofs.Common.{◌≡◌, ℕ, ◌+◌, ◌-◌, Bool, List, length, Ok, Err, Result, IfOk, refl, ap, subst, ◌∙◌, arith, length-append}
 use Rattle.simplex_base.specs.Format.{Format, IsLawful}
 use Rattle.simplex_base.specs.Positions.{Round}
 use Rattle.simplex_base.specs.Reading.{IsBytes, Fails}
@@ -27,6 +27,11 @@ module _ {M : Type 0} (format : Format M) (law : IsLawful format) (bytes rest : 
         round_is = same;
         length_is = omega (arith, whole, size);
       }
+
+-- what holds of a value that is read if more is known
+pub if_all : {A E K : Type 0} (P : A → Type 0) (read : Result A E) → (K → IfOk read P) → IfOk read (λ x. K → P x)
+if_all P (Ok x) holds = holds
+if_all P (Err e) holds = tt
 
 -- where reading is refused, no message's encoding begins
 pub refused_stuck : {M : Type 0} (format : Format M) (bytes : List ℕ) (memory : Bool) (e : Error) → IsLawful format →

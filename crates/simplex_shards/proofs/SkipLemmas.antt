@@ -1,21 +1,19 @@
 -- What is skipped would be read.
-use Rattle.std.proofs.Common.{◌≡◌, ℕ, zero, suc, ◌+◌, ◌<◌, ◌≤◌, List, [], ◌∷◌, length, take, drop, nat_lt, nat_le, false, Ok, refl, sym, ap, subst, ◌∙◌, arith}
+use Rattle.std.proofs.Common.{◌≡◌, ℕ, zero, suc, ◌+◌, ◌<◌, ◌≤◌, List, [], ◌∷◌, nat_lt, nat_le, ◌||◌, false, true, Ok, Err, Result, IfOk, refl, sym, subst, arith}
 use Rattle.std.proofs.lemmas.Bool.{le-ltb, lt-leb, ne_eqb}
-use Rattle.simplex_base.specs.Reading.{Reading}
-use Rattle.simplex_base.specs.Format.{Format, both_at, fixed_at, made_at}
+use Rattle.simplex_base.specs.Reading.{Reading, Refusal, ◌>>=◌}
+use Rattle.simplex_base.specs.Format.{Format, both_at, made_at}
 use Rattle.simplex_base.specs.Varint.{number_32}
 use Rattle.simplex_scheme.specs.Attestation.{attestation_format}
 use Rattle.simplex_scheme.specs.declared.scheme.Attestation.{Attestation}
 use Rattle.simplex_schemes.specs.Listed.{attestations_at, listed_at}
-use Rattle.simplex_shards.specs.Skips.{Skips, SkipsBy}
+use Rattle.simplex_shards.specs.Skips.{IsRefused, Skips, SkipsBy}
 
--- a value of a fixed size is skipped with its bytes
-pub skipped_fixed : {T : Type 0} (size count : ℕ) (of_bytes : List ℕ → T) (bytes rest : List ℕ) → count ≡ size →
-    count ≤ length bytes → rest ≡ drop count bytes → Skips (fixed_at size of_bytes) bytes rest
-skipped_fixed size count of_bytes bytes rest is long same =
-    let enough : nat_lt (length bytes) size ≡ false = le-ltb (length bytes) size (omega (arith, is, long)) in
-    let behind : drop size bytes ≡ rest = ap (λ (n : ℕ). drop n bytes) (sym is) ∙ sym same in
-    (of_bytes (take size bytes), rw (enough, behind) refl)
+-- what is refused is refused whatever would follow
+refused_then : {A B : Type 0} (read : Result A Refusal) (then : A → Result B Refusal) → IfOk read (λ _. ⊥) →
+    IfOk (read >>= then) (λ _. ⊥)
+refused_then (Ok x) then fails = absurd fails
+refused_then (Err e) then fails = tt
 
 -- a part that was read, and one that was skipped behind it
 pub both_ok : {A B : Type 0} (first : List ℕ → Reading A) (second : List ℕ → Reading B) (bytes middle rest : List ℕ)
@@ -46,9 +44,11 @@ module _ (S P : Type 0) {G : Type 0} (signature : Format G) (bound count : ℕ) 
     pub finished : (xs : List (Attestation S P G)) (after : List ℕ) →
         attestations_at {S = S} {P = P} signature bound least left rest ≡ Ok (xs, after) →
         Skips (attestations_at {S = S} {P = P} signature bound 0 count) bytes after
+    pub refused : IsRefused (attestations_at {S = S} {P = P} signature bound least left) rest →
+        IsRefused (attestations_at {S = S} {P = P} signature bound 0 count) bytes
 
   pub skipping_start : Skipping 0 count bytes
-  skipping_start = record { finished = λ xs after e. (xs, e) }
+  skipping_start = record { finished = λ xs after e. (xs, e); refused = λ fails. fails }
 
   -- one attestation more was skipped
   skipping_more : (least left : ℕ) (rest behind : List ℕ) (signer : ℕ) → Skipping least (suc left) rest →
@@ -64,6 +64,14 @@ module _ (S P : Type 0) {G : Type 0} (signature : Format G) (bound count : ℕ) 
         let others = subst (λ (n : ℕ). attestations_at {S = S} {P = P} signature bound (n + 1) left behind ≡ Ok (xs, after))
         (sym same) e in
         so.finished (a ∷ xs) after (rw (one.2, first, last, others) refl);
+    refused = λ fails.
+        let a = one.0 in
+        let same = one.1 in
+        let first : nat_lt a.signer least ≡ false = le-ltb a.signer least (omega (arith, same, low)) in
+        let last : nat_le bound a.signer ≡ false = lt-leb bound a.signer (omega (arith, same, high)) in
+        let others = subst (λ (n : ℕ). IsRefused (attestations_at {S = S} {P = P} signature bound (n + 1) left) behind)
+        (sym same) fails in
+        so.refused (rw (one.2, first, last) (refused_then _ _ others));
   }
 
   pub skipping_next : (counter least left : ℕ) (rest behind : List ℕ) (signer : ℕ) → counter + left ≡ count →
@@ -74,6 +82,30 @@ module _ (S P : Type 0) {G : Type 0} (signature : Format G) (bound count : ℕ) 
   skipping_next counter least zero rest behind signer sum some so one low high = absurd (omega (arith, sum, some))
   skipping_next counter least (suc left) rest behind signer sum some so one low high =
       (left, omega (arith, sum), skipping_more least left rest behind signer so one low high)
+
+  -- an attestation that is refused, or has a signer out of order or range
+  pub no_attestation : (least left : ℕ) (rest : List ℕ) →
+      IsRefused {T = Attestation S P G} (attestation_format signature).reading rest →
+      IsRefused (attestations_at {S = S} {P = P} signature bound least (suc left)) rest
+  unfolding attestations_at
+  no_attestation least left rest fails = refused_then _ _ (refused_then _ _ fails)
+
+  pub no_signer : (least left : ℕ) (rest behind : List ℕ) (signer : ℕ) →
+      SkipsBy {T = Attestation S P G} (λ a. a.signer ≡ signer) (attestation_format signature).reading rest behind →
+      (nat_lt signer least || nat_le bound signer) ≡ true →
+      IsRefused (attestations_at {S = S} {P = P} signature bound least (suc left)) rest
+  unfolding attestations_at
+  no_signer least left rest behind signer one out =
+      let bad = subst (λ (n : ℕ). (nat_lt n least || nat_le bound n) ≡ true) (sym one.1) out in
+      rw (one.2, bad) tt
+
+  -- the next attestation cannot be read
+  pub skipping_refused : (counter least left : ℕ) (rest : List ℕ) → counter + left ≡ count → counter < count →
+      Skipping least left rest →
+      ((next : ℕ) → IsRefused (attestations_at {S = S} {P = P} signature bound least (suc next)) rest) →
+      IsRefused (attestations_at {S = S} {P = P} signature bound 0 count) bytes
+  skipping_refused counter least zero rest sum some so fails = absurd (omega (arith, sum, some))
+  skipping_refused counter least (suc left) rest sum some so fails = so.refused (fails left)
 
   -- all were skipped
   pub skipping_end : (counter least left : ℕ) (rest : List ℕ) → counter + left ≡ count → count ≤ counter →

@@ -1,8 +1,8 @@
 //! What a row says of a message of consensus, and where one ends that is not decoded.
 
-ghost use Rattle.std.specs.Prelude.{◌≡◌, IfSome, length};
+ghost use Rattle.std.specs.Prelude.{◌≡◌, None, true, IfSome, length};
 ghost use Rattle.simplex_evidence.specs.Activity.{activity_tag, votes_in};
-ghost use Rattle.simplex_shards.specs.Skips.{SkipsBehind};
+ghost use Rattle.simplex_shards.specs.Skips.{IsEvidence, IsLeftBehind, SkipsBehind};
 
 use crate::index::{Row, Tabular};
 use crate::peek::{Peek, Peeked};
@@ -64,6 +64,9 @@ fn tag_of<S: CertificateScheme, D: Digest>(message: &Activity<S, D>) -> u32
 }
 
 impl<S: SkipCertificate<D>, D: Digest> Peek for Activity<S, D> {
+    // Where a scheme skips all certificates, evidence alone is decoded.
+    ghost is_decoded = { λ message. S.skips_all ≡ true → IsEvidence message };
+
     fn peek(bytes: &[u8], bound: u32) -> Option<Peeked> {
         let Some((tag, body)) = bytes.split_first() else {
             return None;
@@ -83,8 +86,10 @@ fn skip_behind_round<S: SkipCertificate<D>, D: Digest>(
     bytes: &[u8],
     bound: u32,
 ) -> Option<&[u8]>
-    ensures { IfSome result (λ rest. SkipsBehind (⟦<Activity<S, D> as Read>⟧.reading bound)
+    ensures rest { IfSome result (λ rest. SkipsBehind (⟦<Activity<S, D> as Read>⟧.reading bound)
         ⟦<Activity<S, D> as Roundable>⟧.round_of tag bytes.now rest.now) }
+    ensures none { S.skips_all ≡ true → result ≡ None → IsLeftBehind
+        (⟦<Activity<S, D> as Read>⟧.reading bound) (λ m. IsEvidence m) tag bytes.now }
 {
     match tag {
         0 | 5 => skip_signed::<S, D>(bytes),

@@ -1,6 +1,6 @@
 //! The round and the length of the message that begins some bytes.
 
-ghost use Rattle.std.specs.Prelude.{◌≡◌, IfOk, IfSome, MatchOption};
+ghost use Rattle.std.specs.Prelude.{◌≡◌, None, IfOk, IfSome, MatchOption};
 ghost use Rattle.simplex_base.specs.Format.{format_under};
 ghost use Rattle.simplex_stream.specs.Messages.{IsStuck};
 ghost use Rattle.simplex_shards.specs.Peek.{IsPeeked};
@@ -21,16 +21,16 @@ pub struct Peeked {
 
 /// A message of which the round and the length may be known without decoding it.
 pub trait Peek: Tabular {
-    /// The round and the length of the message that begins some bytes, if it is read under a bound. `None` says nothing of the
-    /// bytes: the message has to be decoded then. Unless a type says more, that is always so. Nothing is allocated.
+    /// The messages that may have to be decoded.
+    ghost is_decoded: { Self → Type 0 };
+
+    /// The round and the length of the message that begins some bytes, if it is read under a bound. After `None` a message that
+    /// begins them is one that may have to be decoded. Nothing is allocated. A type whose messages are always decoded returns
+    /// `None`.
     fn peek(bytes: &[u8], bound: u32) -> Option<Peeked>
-        ensures { IfSome result (λ peeked.
+        ensures peeked { IfSome result (λ peeked.
             IsPeeked (Self.fits bound) Self.encoding Self.round_of bytes.now peeked) }
-    {
-        let _ = bytes;
-        let _ = bound;
-        None
-    }
+        ensures none { result ≡ None → IfOk (Self.reading bound bytes.now) (λ x. is_decoded x.0) };
 }
 
 /// The round and the length of the message that begins some bytes, decoded only if [`peek`](Peek::peek) returns `None`; `None`

@@ -19,37 +19,37 @@ certificate g bound = record {
 abbrev signature : (g : given.Over) → Format g.row.S-Signature.Denot
 signature g = fixed g.S.Signature.Fixed.SIZE g.S.Signature.Fixed.bytes_of g.S.Signature.Fixed.of_bytes
 
-pub returns-in-0 : goal.returns-in-0
-returns-in-0 g c =
-    IfSome_then c.skip_signed.result c.skip_signed.ensures (λ rest s.
+pub returns-in-0-clause-rest : goal.returns-in-0-clause-rest
+returns-in-0-clause-rest g c =
+    IfSome_then c.skip_signed.result c.skip_signed.ensures.rest (λ rest s.
     signed_behind g.row.S.Denot g.row.S-PublicKey.Denot g.D.PartialEq.eq (payload g) (certificate g c.args.bound) (signature g)
     c.args.bytes.now rest.now c.args.tag c.in-0.is s)
 
-pub returns-in_ok-rest-in-3 : goal.returns-in_ok-rest-in-3
-returns-in_ok-rest-in-3 g c =
-    let skipped = c.in_ok-rest-in-3.ensures in
+pub returns-in_ok-rest-in-3-clause-rest : goal.returns-in_ok-rest-in-3-clause-rest
+returns-in_ok-rest-in-3-clause-rest g c =
+    let skipped = c.in_ok-rest-in-3.ensures.rest in
     subst (Behind g.row.S.Denot g.row.S-PublicKey.Denot g.D.PartialEq.eq (payload g) (certificate g c.args.bound) (signature g)
     c.args.bytes.now c.in_ok-rest-in-3.rest.now) (sym c.in-3.is)
     (nullify_behind g.row.S.Denot g.row.S-PublicKey.Denot g.D.PartialEq.eq (payload g) (certificate g c.args.bound)
     (signature g) c.args.bytes.now c.in_ok-rest-in-3.rest.now (skipped.0, skipped.2))
 
-pub returns-in-4 : goal.returns-in-4
-returns-in-4 g c =
-    IfSome_then c.skip_certificate.result c.skip_certificate.ensures (λ rest s.
+pub returns-in-4-clause-rest : goal.returns-in-4-clause-rest
+returns-in-4-clause-rest g c =
+    IfSome_then c.skip_certificate.result c.skip_certificate.ensures.rest (λ rest s.
     subst (Behind g.row.S.Denot g.row.S-PublicKey.Denot g.D.PartialEq.eq (payload g) (certificate g c.args.bound) (signature g)
     c.args.bytes.now rest.now) (sym c.in-4.is)
     (nullification_behind g.row.S.Denot g.row.S-PublicKey.Denot g.D.PartialEq.eq (payload g) (certificate g c.args.bound)
     (signature g) c.args.bytes.now rest.now s))
 
-pub returns-in-1 : goal.returns-in-1
-returns-in-1 g c =
-    IfSome_then c.skip_certified.result c.skip_certified.ensures (λ rest s.
+pub returns-in-1-clause-rest : goal.returns-in-1-clause-rest
+returns-in-1-clause-rest g c =
+    IfSome_then c.skip_certified.result c.skip_certified.ensures.rest (λ rest s.
     certified_behind g.row.S.Denot g.row.S-PublicKey.Denot g.D.PartialEq.eq (payload g) (certificate g c.args.bound)
     (signature g) c.args.bytes.now rest.now c.args.tag c.in-1.is s)
 
-pub returns-in-2 : goal.returns-in-2
-returns-in-2 g c =
-    IfSome_then c.skip_certified-in-2.result c.skip_certified-in-2.ensures (λ rest s.
+pub returns-in-2-clause-rest : goal.returns-in-2-clause-rest
+returns-in-2-clause-rest g c =
+    IfSome_then c.skip_certified-in-2.result c.skip_certified-in-2.ensures.rest (λ rest s.
     subst (Behind g.row.S.Denot g.row.S-PublicKey.Denot g.D.PartialEq.eq (payload g) (certificate g c.args.bound) (signature g)
     c.args.bytes.now rest.now) (sym c.in-2.is)
     (certification_behind g.row.S.Denot g.row.S-PublicKey.Denot g.D.PartialEq.eq (payload g) (certificate g c.args.bound)
