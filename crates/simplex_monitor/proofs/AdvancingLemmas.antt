@@ -20,7 +20,7 @@ module _ {S D C P G : Type 0} (basis : Basis S D C P G) (m : Activity S D C P G)
   -- it has no certificate
   pub advances_none : (state : Watcher S D P G) → subject_and_certificate m ≡ None → Advances basis m state state
   advances_none state none = record {
-    counts = record { below = refl; above = refl };
+    counts = record { below = refl; above = refl; holding = refl };
     window = λ start before ordered began low recalls.
         began ∙ sym (unmoved basis.rules start before m (ap (λ o. is_some (if_certified basis.rules o)) none));
     holds = λ start before taken told ordered began h. h;
@@ -37,7 +37,7 @@ module _ {S D C P G : Type 0} (basis : Basis S D C P G) (m : Activity S D C P G)
     -- no subject of its round and kind is certified
     pub advances_not : told ≡ false → Advances basis m old old
     advances_not fails = record {
-      counts = record { below = refl; above = refl };
+      counts = record { below = refl; above = refl; holding = refl };
       window = λ start before ordered began low recalls.
           began ∙ sym (window_stays basis.rules (is_from (floor_of old.window)) start before m x c
           (ap contents_certificate held)

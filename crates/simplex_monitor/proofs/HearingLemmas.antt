@@ -19,7 +19,7 @@ use Rattle.simplex_stream.specs.Text.{AppendsBeginning}
 use Rattle.simplex_stream.specs.declared.fault.Fault.{Fault}
 use Rattle.simplex_audit.specs.Basis.{Basis}
 use Rattle.simplex_monitor.specs.Hearing.{AllTold, Heard, Hears, HearsBeginning, news_text, told_by}
-use Rattle.simplex_monitor.specs.Monitoring.{EndsAt, Listens, fed_of}
+use Rattle.simplex_monitor.specs.Monitoring.{EndsAt, HoldsAsBefore, KeepsHolding, Listens, fed_of}
 use Rattle.simplex_monitor.specs.declared.monitor.Monitor.{Monitor}
 use Rattle.simplex_monitor.specs.declared.window.Window.{Window}
 
@@ -54,18 +54,21 @@ module _ {S D C P G : Type 0} (basis : Schedule S → Basis S D C P G) where
     fed = omega arith;
     listens = λ start committees told stream h.
         subst (λ (t : List ℕ). Listens basis start committees told t monitor) (sym (append-nil stream)) h;
+    holds = λ start committees told stream h. refl;
   }
 
   -- a look
   pub hears_look : (monitor next : Monitor S D P G) (news : News S D P G) → fed_of next ≡ fed_of monitor →
       ((start : Window) (committees : Schedule S) (told : Told D G) (stream : List ℕ) →
       Listens basis start committees told stream monitor →
-      Listens basis start committees (told_then told news) stream next) → Hears basis monitor [] (news ∷ []) next
-  hears_look monitor next news same listens = record {
+      Listens basis start committees (told_then told news) stream next) → HoldsAsBefore monitor next →
+      Hears basis monitor [] (news ∷ []) next
+  hears_look monitor next news same listens holding = record {
     fed = omega (arith, same);
     listens = λ start committees told stream h.
         subst (λ (t : List ℕ). Listens basis start committees (told_then told news) t next) (sym (append-nil stream))
         (listens start committees told stream h);
+    holds = λ start committees told stream h. holding;
   }
 
   -- one input and another
@@ -79,6 +82,9 @@ module _ {S D C P G : Type 0} (basis : Schedule S → Basis S D C P G) where
         (subst (λ (t : Told D G). Listens basis start committees t ((stream ++ input) ++ more) c)
         (sym (told_by-append told looks further))
         (next.listens start committees (told_by told looks) (stream ++ input) (one.listens start committees told stream h)));
+    holds = λ start committees told stream h.
+        next.holds start committees (told_by told looks) (stream ++ input) (one.listens start committees told stream h)
+        ∙ one.holds start committees told stream h;
   }
 
   -- a piece, and a look behind it
@@ -89,11 +95,13 @@ module _ {S D C P G : Type 0} (basis : Schedule S → Basis S D C P G) where
       Listens basis start committees told (stream ++ piece) between) →
       ((start : Window) (committees : Schedule S) (told : Told D G) (stream : List ℕ) →
       Listens basis start committees told stream between →
-      Listens basis start committees (told_then told news) stream next) → Hears basis monitor piece (news ∷ []) next
-  hears_piece monitor between next piece news fed same feeds looks = record {
+      Listens basis start committees (told_then told news) stream next) → KeepsHolding basis monitor between →
+      HoldsAsBefore between next → Hears basis monitor piece (news ∷ []) next
+  hears_piece monitor between next piece news fed same feeds looks holds holding = record {
     fed = omega (arith, fed, same);
     listens = λ start committees told stream h.
         looks start committees told (stream ++ piece) (feeds start committees told stream h);
+    holds = λ start committees told stream h. holding ∙ holds start committees told stream h;
   }
 
   -- what a monitor holds was shortened behind a look
@@ -101,11 +109,12 @@ module _ {S D C P G : Type 0} (basis : Schedule S → Basis S D C P G) where
       Hears basis monitor input looks between → fed_of next ≡ fed_of between →
       ((start : Window) (committees : Schedule S) (told : Told D G) (stream : List ℕ) →
       Listens basis start committees told stream between → Listens basis start committees told stream next) →
-      Hears basis monitor input looks next
-  hears_hooked monitor between next input looks hears same stays = record {
+      HoldsAsBefore between next → Hears basis monitor input looks next
+  hears_hooked monitor between next input looks hears same stays holding = record {
     fed = let before = hears.fed in omega (arith, before, same);
     listens = λ start committees told stream h.
         stays start committees (told_by told looks) (stream ++ input) (hears.listens start committees told stream h);
+    holds = λ start committees told stream h. holding ∙ hears.holds start committees told stream h;
   }
 
   module _ (bytes_of : D → List ℕ) where

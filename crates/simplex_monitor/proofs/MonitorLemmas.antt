@@ -36,7 +36,7 @@ use Rattle.simplex_rules.specs.declared.split.Split.{Split}
 use Rattle.simplex_stream.specs.Decoder.{HasDecoded, DecodesMore, decoding_over}
 use Rattle.simplex_stream.specs.declared.decoder.Decoder.{Decoder}
 use Rattle.simplex_audit.specs.Basis.{Basis}
-use Rattle.simplex_monitor.specs.Monitoring.{AreFewVotes, HasEvidence, HasSplits, HasVotes, Listens, TellsRest, retained, watcher_of}
+use Rattle.simplex_monitor.specs.Monitoring.{AreFewVotes, HasEvidence, HasSplits, HasVotes, KeepsHolding, Listens, TellsRest, retained, watcher_of}
 use Rattle.simplex_monitor.specs.Bounded.{views_of}
 use Rattle.simplex_monitor.specs.Holding.{StandsIfHeld}
 use Rattle.simplex_monitor.specs.Taken.{window_of}
@@ -94,7 +94,7 @@ listens_on {S} {D} {C} {P} {G} basis format old decoder watcher piece reads on d
     let rules = (basis committees).rules in
     let here : WatchesMore (basis committees) more (watcher_of old) watcher =
     subst (λ (c : Schedule S). WatchesMore (basis c) more (watcher_of old) watcher) h.committees_are watched in
-    let w = here start h.taken told h.below h.above h.ordered h.members h.watches in
+    let w = here.1 start h.taken told h.below h.above h.ordered h.members h.watches in
     record {
       ordered = h.ordered;
       committees_are = h.committees_are;
@@ -117,6 +117,18 @@ listens_on {S} {D} {C} {P} {G} basis format old decoder watcher piece reads on d
           w.are_taken;
       watches = w.watches;
     }
+
+-- whether messages are held is as it was
+pub holds_on : {S D C P G : Type 0} (basis : Schedule S → Basis S D C P G) (format : ℕ → Format (Activity S D C P G))
+    (old : Monitor S D P G) (decoder : Decoder) (watcher : Watcher S D P G) (piece : List ℕ) →
+    ((s : Schedule S) → (basis s).format ≡ format (basis s).bound) →
+    DecodesMore (format old.bound)
+    (λ more. WatchesMore (basis old.committees.now) more (watcher_of old) watcher) piece old.decoder decoder →
+    KeepsHolding basis old (record old { decoder = decoder; watcher = watcher })
+holds_on {S} {D} {C} {P} {G} basis format old decoder watcher piece reads decodes start committees told stream h =
+    let same : (basis committees).format ≡ format old.bound = reads committees ∙ ap format (sym h.bound_is) in
+    let Decoded : Format (Activity S D C P G) → Type 0 = λ f. HasDecoded f h.front h.messages old.decoder in
+    (decodes h.front h.messages (subst Decoded same h.decoded)).2.0
 
 -- a window by another name
 pub listens_as : {S D C P G : Type 0} (basis : Schedule S → Basis S D C P G) (monitor : Monitor S D P G) (window start : Window)

@@ -152,9 +152,9 @@ module _ {S D C P G : Type 0} (basis : Basis S D C P G) where
       ((part : Round → Bool) → HaveCommittees basis.rules → HaveCommittees (in_rounds part basis.rules)) →
       floor ≡ floor_of old.window → judged ≡ in_rounds (is_from floor) basis.rules →
       RecallsMore judged (m ∷ []) old.detector detector → SoundsMore judged (m ∷ []) old.detector old.alarm alarm →
-      HoldsMore basis judged m old.detector old.held held →
+      HoldsMore basis judged m old.detector old.held held → is_some held ≡ is_some old.held →
       RecordsOne basis m old (record old { detector = detector; alarm = alarm; held = held })
-  records_one judged floor m old detector alarm held parts at by recalls sounds more =
+  records_one judged floor m old detector alarm held parts at by recalls sounds more holding =
       let same = by ∙ ap (λ f. in_rounds (is_from f) basis.rules) at in
       let from = in_rounds (is_from (floor_of old.window)) basis.rules in
       let recalls_from : RecallsMore from (m ∷ []) old.detector detector =
@@ -165,7 +165,7 @@ module _ {S D C P G : Type 0} (basis : Basis S D C P G) where
       subst (λ rs. HoldsMore basis rs m old.detector old.held held) same more in
       record {
         window = refl;
-        counts = record { below = refl; above = refl };
+        counts = record { below = refl; above = refl; holding = holding };
         holds = λ taken told members h. record {
           recalls = recalls_from taken h.recalls;
           sounds = sounds_from taken (told_from (floor_of old.window) told)
@@ -234,79 +234,88 @@ module _ {S D C P G : Type 0} (basis : Basis S D C P G) (m : Activity S D C P G)
   -- it is of a round that the window admits nothing of
   pub left_below : (old : Watcher S D P G) (below : ℕ) → (AdmitsCertificate old.window (activity_round m) → ⊥) →
       below ≡ min (old.below + 1) (2 ^ 64 - 1) → WatchesMore basis (m ∷ []) old (record old { below = below })
-  left_below old below out more start before told n k ordered members held = record {
-    taken = [];
-    lower = 1;
-    higher = 0;
-    are_taken = inr (inl (
-      (λ at. out (subst (λ w. AdmitsCertificate w (activity_round m)) (sym held.window_is) at)),
-      0,
-      refl,
-      (refl, refl, refl),
-    ));
-    watches = record {
-      window_is = held.window_is ∙ ap (window_of basis.rules start) (sym (append-nil before));
-      holds = subst (λ ts. HoldsFrom basis (floor_of old.window) ts told (record old { below = below }))
-          (sym (append-nil before)) (record {
-            recalls = held.holds.recalls;
-            sounds = held.holds.sounds;
-            stands = held.holds.stands;
-          });
-      below_is = one_more n below old.below held.below_is more;
-      above_is = held.above_is ∙ ap (λ j. min j (2 ^ 64 - 1)) (omega arith);
-    };
-  }
+  left_below old below out more = (
+    refl,
+    λ start before told n k ordered members held. record {
+      taken = [];
+      lower = 1;
+      higher = 0;
+      are_taken = inr (inl (
+        (λ at. out (subst (λ w. AdmitsCertificate w (activity_round m)) (sym held.window_is) at)),
+        0,
+        refl,
+        (refl, refl, refl),
+      ));
+      watches = record {
+        window_is = held.window_is ∙ ap (window_of basis.rules start) (sym (append-nil before));
+        holds = subst (λ ts. HoldsFrom basis (floor_of old.window) ts told (record old { below = below }))
+            (sym (append-nil before)) (record {
+              recalls = held.holds.recalls;
+              sounds = held.holds.sounds;
+              stands = held.holds.stands;
+            });
+        below_is = one_more n below old.below held.below_is more;
+        above_is = held.above_is ∙ ap (λ j. min j (2 ^ 64 - 1)) (omega arith);
+      };
+    },
+  )
 
   -- it is of a round beyond the window
   pub left_above : (old : Watcher S D P G) (above : ℕ) → AdmitsCertificate old.window (activity_round m) →
       (Takes basis.rules old.window m → ⊥) → above ≡ min (old.above + 1) (2 ^ 64 - 1) →
       WatchesMore basis (m ∷ []) old (record old { above = above })
-  left_above old above low out more start before told n k ordered members held = record {
-    taken = [];
-    lower = 0;
-    higher = 1;
-    are_taken = inr (inr (
-      subst (λ w. AdmitsCertificate w (activity_round m)) held.window_is low,
-      (λ takes. out (subst (λ w. Takes basis.rules w m) (sym held.window_is) takes)),
-      0,
-      refl,
-      (refl, refl, refl),
-    ));
-    watches = record {
-      window_is = held.window_is ∙ ap (window_of basis.rules start) (sym (append-nil before));
-      holds = subst (λ ts. HoldsFrom basis (floor_of old.window) ts told (record old { above = above }))
-          (sym (append-nil before)) (record {
-            recalls = held.holds.recalls;
-            sounds = held.holds.sounds;
-            stands = held.holds.stands;
-          });
-      below_is = held.below_is ∙ ap (λ j. min j (2 ^ 64 - 1)) (omega arith);
-      above_is = one_more k above old.above held.above_is more;
-    };
-  }
+  left_above old above low out more = (
+    refl,
+    λ start before told n k ordered members held. record {
+      taken = [];
+      lower = 0;
+      higher = 1;
+      are_taken = inr (inr (
+        subst (λ w. AdmitsCertificate w (activity_round m)) held.window_is low,
+        (λ takes. out (subst (λ w. Takes basis.rules w m) (sym held.window_is) takes)),
+        0,
+        refl,
+        (refl, refl, refl),
+      ));
+      watches = record {
+        window_is = held.window_is ∙ ap (window_of basis.rules start) (sym (append-nil before));
+        holds = subst (λ ts. HoldsFrom basis (floor_of old.window) ts told (record old { above = above }))
+            (sym (append-nil before)) (record {
+              recalls = held.holds.recalls;
+              sounds = held.holds.sounds;
+              stands = held.holds.stands;
+            });
+        below_is = held.below_is ∙ ap (λ j. min j (2 ^ 64 - 1)) (omega arith);
+        above_is = one_more k above old.above held.above_is more;
+      };
+    },
+  )
 
   -- it is taken
   pub taken_one : (old mid new : Watcher S D P G) → AdmitsCertificate old.window (activity_round m) →
       Takes basis.rules old.window m → RecordsOne basis m old mid → Advances basis m mid new →
       WatchesMore basis (m ∷ []) old new
-  taken_one old mid new low takes one moves start before told n k ordered members held =
-      let more = before ++ m ∷ [] in
-      let began : mid.window ≡ window_of basis.rules start before = one.window ∙ held.window_is in
-      let after : HoldsFrom basis (floor_of mid.window) more told mid =
-      subst (λ w. HoldsFrom basis (floor_of w) more told mid) (sym one.window) (one.holds before told members held.holds) in
-      record {
-        taken = m ∷ [];
-        lower = 0;
-        higher = 0;
-        are_taken = inl (subst (λ w. Takes basis.rules w m) held.window_is takes, [], refl, (refl, refl, refl));
-        watches = record {
-          window_is = moves.window start before ordered began
-              (subst (λ w. AdmitsCertificate w (activity_round m)) (sym one.window) low) after.recalls;
-          holds = moves.holds start before more told ordered began after;
-          below_is = moves.counts.below ∙ one.counts.below ∙ held.below_is ∙ ap (λ j. min j (2 ^ 64 - 1)) (omega arith);
-          above_is = moves.counts.above ∙ one.counts.above ∙ held.above_is ∙ ap (λ j. min j (2 ^ 64 - 1)) (omega arith);
-        };
-      }
+  taken_one old mid new low takes one moves = (
+    moves.counts.holding ∙ one.counts.holding,
+    λ start before told n k ordered members held.
+        let more = before ++ m ∷ [] in
+        let began : mid.window ≡ window_of basis.rules start before = one.window ∙ held.window_is in
+        let after : HoldsFrom basis (floor_of mid.window) more told mid =
+        subst (λ w. HoldsFrom basis (floor_of w) more told mid) (sym one.window) (one.holds before told members held.holds) in
+        record {
+          taken = m ∷ [];
+          lower = 0;
+          higher = 0;
+          are_taken = inl (subst (λ w. Takes basis.rules w m) held.window_is takes, [], refl, (refl, refl, refl));
+          watches = record {
+            window_is = moves.window start before ordered began
+                (subst (λ w. AdmitsCertificate w (activity_round m)) (sym one.window) low) after.recalls;
+            holds = moves.holds start before more told ordered began after;
+            below_is = moves.counts.below ∙ one.counts.below ∙ held.below_is ∙ ap (λ j. min j (2 ^ 64 - 1)) (omega arith);
+            above_is = moves.counts.above ∙ one.counts.above ∙ held.above_is ∙ ap (λ j. min j (2 ^ 64 - 1)) (omega arith);
+          };
+        },
+  )
 
   -- ---- by what the window answers
 

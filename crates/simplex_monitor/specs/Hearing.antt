@@ -12,7 +12,7 @@ use Rattle.simplex_alarm.specs.declared.alarm.News.{News}
 use Rattle.simplex_stream.specs.Text.{AppendsBeginning}
 use Rattle.simplex_audit.specs.Basis.{Basis}
 use Rattle.simplex_audit.specs.Run.{text_of}
-use Rattle.simplex_monitor.specs.Monitoring.{Listens, fed_of, watcher_of}
+use Rattle.simplex_monitor.specs.Monitoring.{KeepsHolding, Listens, fed_of, watcher_of}
 use Rattle.simplex_monitor.specs.declared.monitor.Monitor.{Monitor}
 use Rattle.simplex_monitor.specs.declared.window.Window.{Window}
 
@@ -38,6 +38,7 @@ pub record Hears {S D C P G : Type 0} (basis : Schedule S → Basis S D C P G) (
   pub listens : (start : Window) (committees : Schedule S) (told : Told D G) (stream : List ℕ) →
       Listens basis start committees told stream first →
       Listens basis start committees (told_by told looks) (stream ++ input) next
+  pub holds : KeepsHolding basis first next
 
 -- the same, and all that arose is told and written
 pub record Heard {S D C P G : Type 0} (basis : Schedule S → Basis S D C P G) (bytes_of : D → List ℕ) (first : Monitor S D P G)

@@ -1,5 +1,5 @@
 -- Which stream a monitor listens to, and what it knows of it.
-use Rattle.std.specs.Prelude.{◌≡◌, ◌⊎◌, ◌++◌, ◌*◌, ◌-◌, ◌^◌, ◌≤◌, ℕ, Bool, IsTrue, List, [], Option, Vec, length, min}
+use Rattle.std.specs.Prelude.{◌≡◌, ◌⊎◌, ◌++◌, ◌*◌, ◌-◌, ◌^◌, ◌≤◌, ℕ, Bool, IsTrue, List, [], Option, Vec, is_some, length, min}
 use Rattle.std.specs.Global.{Global}
 use Rattle.std.specs.List.{flat_map}
 use Rattle.simplex_base.specs.Format.{Format, IsLawful}
@@ -69,6 +69,16 @@ pub record Listens {S D C P G : Type 0} (basis : Schedule S → Basis S D C P G)
   pub above : ℕ
   pub are_taken : AreTaken (basis committees).rules start [] messages taken below above
   pub watches : Watches (basis committees) start taken told below above (watcher_of monitor)
+
+-- whether messages are held is as it was
+abbrev pub HoldsAsBefore : {S D P G : Type 0} → Monitor S D P G → Monitor S D P G → Type 0
+HoldsAsBefore old new = is_some (held_of new) ≡ is_some (held_of old)
+
+-- so it is after a monitor that has listened to some stream
+abbrev pub KeepsHolding : {S D C P G : Type 0} → (Schedule S → Basis S D C P G) → Monitor S D P G → Monitor S D P G → Type 0
+KeepsHolding {S} {D} {C} {P} {G} basis old new =
+    (start : Window) (committees : Schedule S) (told : Told D G) (stream : List ℕ) →
+    Listens basis start committees told stream old → HoldsAsBefore old new
 
 module _ {S D C P G : Type 0} (rules : Rules S D C P G) (taken : List (Activity S D C P G)) where
   -- the rules under which nothing below the floor of a monitor is valid

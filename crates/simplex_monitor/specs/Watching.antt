@@ -20,10 +20,15 @@ use Rattle.simplex_monitor.specs.Window.{AdmitsCertificate, IsInOrder, floor_of}
 use Rattle.simplex_monitor.specs.declared.watcher.Watcher.{Watcher}
 use Rattle.simplex_monitor.specs.declared.window.Window.{Window}
 
--- the counts of what was left out are as they were
+-- whether messages are held is as it was
+abbrev pub HoldsAsBefore : {S D P G : Type 0} → Watcher S D P G → Watcher S D P G → Type 0
+HoldsAsBefore old new = is_some new.held ≡ is_some old.held
+
+-- so is it, and the counts of what was left out are as they were
 pub record KeepsCounts {S D P G : Type 0} (old new : Watcher S D P G) : Type 0 where
   pub below : new.below ≡ old.below
   pub above : new.above ≡ old.above
+  pub holding : HoldsAsBefore old new
 
 module _ {S D C P G : Type 0} (basis : Basis S D C P G) where
   -- What is known is the state of the messages from a floor on. What was told of these rounds and what was not are what arose
@@ -52,12 +57,14 @@ module _ {S D C P G : Type 0} (basis : Basis S D C P G) where
     pub are_taken : AreTaken basis.rules start before messages taken lower higher
     pub watches : Watches start (before ++ taken) told (below + lower) (above + higher) watcher
 
-  -- what was known of any messages becomes what is known of them and those that were taken of some more
+  -- What was known of any messages becomes what is known of them and those that were taken of some more. Whether messages are
+  -- held is as it was.
   abbrev pub WatchesMore : List (Activity S D C P G) → Watcher S D P G → Watcher S D P G → Type 0
   WatchesMore messages old new =
-      (start : Window) (before : List (Activity S D C P G)) (told : Told D G) (below above : ℕ) →
+      HoldsAsBefore old new
+      × ((start : Window) (before : List (Activity S D C P G)) (told : Told D G) (below above : ℕ) →
       IsInOrder start → HaveCommittees basis.rules → Watches start before told below above old →
-      WatchesFurther start before messages told below above new
+      WatchesFurther start before messages told below above new)
 
   -- ---- inside
 

@@ -37,32 +37,38 @@ module _ {S D C P G : Type 0} (rules : Rules S D C P G) where
 module _ {S D C P G : Type 0} (basis : Basis S D C P G) where
   -- no message came
   pub watches_none : (state : Watcher S D P G) → WatchesMore basis [] state state
-  watches_none state start before told below above ordered members held = record {
-    taken = [];
-    lower = 0;
-    higher = 0;
-    are_taken = (refl, refl, refl);
-    watches = subst (λ ts. Watches basis start ts told (below + 0) (above + 0) state) (sym (append-nil before)) (
-        subst (λ n. Watches basis start before told n (above + 0) state) (omega arith)
-        (subst (λ n. Watches basis start before told below n state) (omega arith) held));
-  }
+  watches_none state = (
+    refl,
+    λ start before told below above ordered members held. record {
+      taken = [];
+      lower = 0;
+      higher = 0;
+      are_taken = (refl, refl, refl);
+      watches = subst (λ ts. Watches basis start ts told (below + 0) (above + 0) state) (sym (append-nil before)) (
+          subst (λ n. Watches basis start before told n (above + 0) state) (omega arith)
+          (subst (λ n. Watches basis start before told below n state) (omega arith) held));
+    },
+  )
 
   -- one message more came
   pub watches_more : (ms : List (Activity S D C P G)) (m : Activity S D C P G) (a b c : Watcher S D P G) →
       WatchesMore basis ms a b → WatchesMore basis (m ∷ []) b c → WatchesMore basis (ms ++ m ∷ []) a c
-  watches_more ms m a b c first one start before told below above ordered members held =
-      let f = first start before told below above ordered members held in
-      let o = one start (before ++ f.taken) told (below + f.lower) (above + f.higher) ordered members f.watches in
-      record {
-        taken = f.taken ++ o.taken;
-        lower = f.lower + o.lower;
-        higher = f.higher + o.higher;
-        are_taken = taken_then basis.rules start before ms (m ∷ []) f.taken o.taken f.lower f.higher o.lower o.higher
-            f.are_taken o.are_taken;
-        watches = subst (λ ts. Watches basis start ts told (below + (f.lower + o.lower)) (above + (f.higher + o.higher)) c)
-            (append_assoc before f.taken o.taken)
-            (subst (λ n. Watches basis start ((before ++ f.taken) ++ o.taken) told n (above + (f.higher + o.higher)) c)
-            (omega arith)
-            (subst (λ n. Watches basis start ((before ++ f.taken) ++ o.taken) told (below + f.lower + o.lower) n c)
-            (omega arith) o.watches));
-      }
+  watches_more ms m a b c first one = (
+    one.0 ∙ first.0,
+    λ start before told below above ordered members held.
+        let f = first.1 start before told below above ordered members held in
+        let o = one.1 start (before ++ f.taken) told (below + f.lower) (above + f.higher) ordered members f.watches in
+        record {
+          taken = f.taken ++ o.taken;
+          lower = f.lower + o.lower;
+          higher = f.higher + o.higher;
+          are_taken = taken_then basis.rules start before ms (m ∷ []) f.taken o.taken f.lower f.higher o.lower o.higher
+              f.are_taken o.are_taken;
+          watches = subst (λ ts. Watches basis start ts told (below + (f.lower + o.lower)) (above + (f.higher + o.higher)) c)
+              (append_assoc before f.taken o.taken)
+              (subst (λ n. Watches basis start ((before ++ f.taken) ++ o.taken) told n (above + (f.higher + o.higher)) c)
+              (omega arith)
+              (subst (λ n. Watches basis start ((before ++ f.taken) ++ o.taken) told (below + f.lower + o.lower) n c)
+              (omega arith) o.watches));
+        },
+  )

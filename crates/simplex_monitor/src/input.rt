@@ -5,7 +5,7 @@ ghost use Rattle.std.specs.Io.KnownBytes.{Appends, Consumes, IsAtEnd, Keeps};
 ghost use Rattle.simplex_alarm.specs.Alarm.{Told};
 ghost use Rattle.simplex_alarm.specs.declared.alarm.News as alarm;
 ghost use Rattle.simplex_monitor.specs.Hearing.{AllTold, Heard, Hears, HearsBeginning, news_text};
-ghost use Rattle.simplex_monitor.specs.Monitoring.{Listens, fed_of};
+ghost use Rattle.simplex_monitor.specs.Monitoring.{HoldsAsBefore, Listens, fed_of};
 ghost use Rattle.simplex_monitor.specs.declared.monitor.Monitor as monitors;
 ghost use Rattle.simplex_monitor.specs.declared.window.Window as windows;
 ghost use Rattle.simplex_scheme.specs.Committees.{Schedule};
@@ -32,7 +32,8 @@ pub trait Hook<S: Listing<D>, D: Digest> {
             Listens ⟦<S as Audited<D>>⟧.basis start committees told stream monitor.old →
             Listens ⟦<S as Audited<D>>⟧.basis start committees told stream monitor.new }
         ensures told { AllTold monitor.old → AllTold monitor.new }
-        ensures fed { fed_of monitor.new ≡ fed_of monitor.old };
+        ensures fed { fed_of monitor.new ≡ fed_of monitor.old }
+        ensures holds { HoldsAsBefore monitor.old monitor.new };
 }
 
 /// Nothing is done.

@@ -1,13 +1,13 @@
 //! An auditor that listens to the network for long.
 
-ghost use Rattle.std.specs.Prelude.{◌≡◌, ◌+◌, ◌-◌, ◌<◌, ◌≤◌, ◌^◌, ◌++◌, ℕ, List, [], map, min, length, IfOk, IfSome, IsTrue, OnErr, OnOk, is_some};
+ghost use Rattle.std.specs.Prelude.{◌≡◌, ◌+◌, ◌-◌, ◌<◌, ◌≤◌, ◌^◌, ◌++◌, ℕ, List, [], false, map, min, length, IfOk, IfSome, IsTrue, OnErr, OnOk, is_some};
 ghost use Rattle.std.specs.List.{flat_map};
 ghost use Rattle.simplex_scheme.specs.Committees.{Schedule};
 ghost use Rattle.simplex_alarm.specs.Alarm.{Told, nothing_told, told_then};
 ghost use Rattle.simplex_rules.specs.Values.{evidence_value};
 ghost use Rattle.simplex_monitor.specs.Hearing.{AllTold};
 ghost use Rattle.simplex_monitor.specs.Holding.{Holds, HoldsNoOther};
-ghost use Rattle.simplex_monitor.specs.Monitoring.{AreFewVotes, EndsAt, HasEvidence, HasSplits, HasVotes, Listens, TellsRest, fed_of, held_of, listening_over, watcher_of};
+ghost use Rattle.simplex_monitor.specs.Monitoring.{AreFewVotes, EndsAt, HasEvidence, HasSplits, HasVotes, HoldsAsBefore, KeepsHolding, Listens, TellsRest, fed_of, held_of, listening_over, watcher_of};
 ghost use Rattle.simplex_monitor.specs.Window.{IsInOrder, first_window, floor_of};
 ghost use Rattle.simplex_monitor.specs.declared.window.Window as windows;
 
@@ -44,7 +44,7 @@ pub struct Monitor<'a, S: SchemeTypes, D: Digest> {
 }
 
 impl<'a, S: Listing<D>, D: Digest> Monitor<'a, S, D> {
-    /// A monitor of these committees that was fed nothing, and whose window begins at a round.
+    /// A monitor of these committees that was fed nothing, and whose window begins at a round. It holds no messages.
     pub fn new(
         alloc: Global,
         committees: &'a Committees<S>,
@@ -53,6 +53,7 @@ impl<'a, S: Listing<D>, D: Digest> Monitor<'a, S, D> {
         lookahead: Lookahead,
     ) -> Self
         ensures fed { fed_of result ≡ 0 }
+        ensures holds { is_some (held_of result) ≡ false }
         ensures listens { Listens ⟦<S as Audited<D>>⟧.basis
             (first_window start view_retention lookahead) committees.now nothing_told [] result }
     {
@@ -95,6 +96,7 @@ impl<'a, S: Listing<D>, D: Digest> Monitor<'a, S, D> {
         requires { fed_of self + length piece.now < 2 ^ 64 }
         ensures fed { IfOk result (λ next. fed_of next ≤ fed_of self.entry + length piece.now) }
         ensures over { IsTrue (listening_over self.entry) → IfOk result (λ next. next ≡ self.entry) }
+        ensures holds { IfOk result (λ next. KeepsHolding ⟦<S as Audited<D>>⟧.basis self.entry next) }
         ensures listens { IfOk result (λ next. (start : windows.Window) (committees : Schedule S)
             (told : Told D S.Signature) (stream : List ℕ) →
             Listens ⟦<S as Audited<D>>⟧.basis start committees told stream self.entry →
@@ -133,6 +135,7 @@ impl<'a, S: Listing<D>, D: Digest> Monitor<'a, S, D> {
             self.old self.new }
         ensures told { AllTold self.new }
         ensures fed { fed_of self.new ≡ fed_of self.old }
+        ensures holds { HoldsAsBefore self.old self.new }
     {
         let news = self.watcher.alarm.take();
         rounds_are_independent::<S, D>();
@@ -169,6 +172,7 @@ impl<'a, S: Listing<D>, D: Digest> Monitor<'a, S, D> {
             (floor_of (watcher_of self.old).window) listens.taken held.items)) }
         ensures told { AllTold self.old → AllTold self.new }
         ensures fed { fed_of self.new ≡ fed_of self.old }
+        ensures holds { HoldsAsBefore self.old self.new }
         ensures failed { OnErr result (self.new ≡ self.old) }
     {
         let Some(held) = &self.watcher.held else {

@@ -17,7 +17,8 @@ returns-in_err-tell-clause-begun g c =
       sym (append-nil c.args.piece.now),
       begun_look _ _ c.args.monitor c.news-news.new.self c.args.piece.now c.news-news.result _ _
           (hears_piece _ c.args.monitor c.in_ok-next.next c.news-news.new.self c.args.piece.now c.news-news.result
-          c.in_ok-next.ensures.fed c.news-news.ensures.fed c.in_ok-next.ensures.listens c.news-news.ensures.listens)
+          c.in_ok-next.ensures.fed c.news-news.ensures.fed c.in_ok-next.ensures.listens c.news-news.ensures.listens
+          c.in_ok-next.ensures.holds c.news-news.ensures.holds)
           c.in_err-tell.ensures.begun,
     )
 
@@ -35,7 +36,8 @@ returns-clause-hears g c = (
   c.news-news.result,
   hears_hooked _ c.args.monitor c.news-news.new.self c.looked.new.monitor c.args.piece.now (c.news-news.result ∷ [])
       (hears_piece _ c.args.monitor c.in_ok-next.next c.news-news.new.self c.args.piece.now c.news-news.result
-      c.in_ok-next.ensures.fed c.news-news.ensures.fed c.in_ok-next.ensures.listens c.news-news.ensures.listens)
-      c.looked.ensures.fed c.looked.ensures.listens,
+      c.in_ok-next.ensures.fed c.news-news.ensures.fed c.in_ok-next.ensures.listens c.news-news.ensures.listens
+      c.in_ok-next.ensures.holds c.news-news.ensures.holds)
+      c.looked.ensures.fed c.looked.ensures.listens c.looked.ensures.holds,
   c.in_ok-tell.ensures.written,
 )

@@ -2,7 +2,7 @@ use Rattle.std.proofs.Common.{ℕ, refl, sym, ◌∙◌}
 use Rattle.simplex_base.specs.Format.{Format, fixed}
 use Rattle.simplex_evidence.specs.Activity.{activity_format}
 use Rattle.simplex_evidence.specs.declared.types.activity.Activity.{Activity}
-use Rattle.simplex_monitor.proofs.MonitorLemmas.{listens_on, listens_over}
+use Rattle.simplex_monitor.proofs.MonitorLemmas.{holds_on, listens_on, listens_over}
 use Rattle.simplex_monitor.proofs.monitor.Monitor.feed.Given as given
 use Rattle.simplex_monitor.proofs.monitor.Monitor.feed.Goals as goal
 
@@ -25,3 +25,8 @@ pub returns-clause-listens : goal.returns-clause-listens
 returns-clause-listens g c =
     listens_on _ (format g) c.args.self c.feed.new.self c.feed.new.visitor c.args.piece.now (λ s. refl)
     (sym c.is_over.ensures ∙ c.if-is_over.false) c.in_ok-feed.ensures.decoded
+
+pub returns-clause-holds : goal.returns-clause-holds
+returns-clause-holds g c =
+    holds_on _ (format g) c.args.self c.feed.new.self c.feed.new.visitor c.args.piece.now (λ s. refl)
+    c.in_ok-feed.ensures.decoded

@@ -33,7 +33,8 @@ returns-clause-moves g c start certified finalized ordered is =
 
 pub returns-clause-counts : goal.returns-clause-counts
 returns-clause-counts g c =
-    record { below = c.prune.ensures.counts.below; above = c.prune.ensures.counts.above }
+    let kept = c.prune.ensures.counts in
+    record { below = kept.below; above = kept.above; holding = kept.holding }
 
 pub returns-clause-holds : goal.returns-clause-holds
 returns-clause-holds g c committees =

@@ -1,4 +1,4 @@
-use Rattle.std.proofs.Common.{Some}
+use Rattle.std.proofs.Common.{Some, ap, is_some, refl, sym}
 use Rattle.simplex_base.specs.Format.{fixed}
 use Rattle.simplex_scheme.specs.Committees.{bound_of}
 use Rattle.simplex_rules.specs.Judging.{rules_under}
@@ -15,7 +15,7 @@ returns-in-None g c =
     c.args.self.now.held (c.rounds_are_independent.ensures.committees _) c.floor.ensures
     (c.floors_rise.ensures.judged c.args.committees.now c.floor.result)
     c.in_ok-observe-in-None.ensures.records c.in_ok-observe-in-None.ensures.sounds
-    (holds_nothing _ _ _ c.args.self.now.detector c.args.self.now.held c.in-None.is)
+    (holds_nothing _ _ _ c.args.self.now.detector c.args.self.now.held c.in-None.is) refl
 
 -- what is kept is held
 pub returns : goal.returns
@@ -38,5 +38,5 @@ returns g c =
     g.S.Certificate.Encoding.is_value
     (g.S.Certificate.Read.fits (bound_of g.S.CertificateScheme.keys c.args.committees.now))
     (fixed g.S.Signature.Fixed.SIZE g.S.Signature.Fixed.bytes_of g.S.Signature.Fixed.of_bytes)
-    judged c.args.message.now kept values)))
+    judged c.args.message.now kept values)) (ap is_some (sym c.in-Some.is)))
     c.append_news.ensures.written c.append_news.ensures.values
