@@ -123,3 +123,22 @@ fn ample_a_flood_of_far_views_is_not_recorded(rt: HostRuntime) -> Result<(), Fai
     }
     Ok(())
 }
+
+/// Evidence that no call took meanwhile is told in the order in which its second votes came.
+#[test]
+fn ample_evidence_is_told_in_order(rt: HostRuntime) -> Result<(), Fail> {
+    let alloc = rt.alloc();
+    let committees = four(alloc)?;
+    let mut monitor = begin(alloc, &committees);
+    for payload in [6, 7] {
+        for signer in [2, 0, 3, 1] {
+            monitor = fed_on(monitor, &[0, 0, 1, 0, payload, signer, 0xaa])?;
+        }
+    }
+    let mut signers = Vec::new(alloc);
+    for item in &monitor.news().evidence {
+        signers.push(item.signer().get())?;
+    }
+    assert_eq!(rt; signers.as_slice(), [2, 0, 3, 1].as_slice());
+    Ok(())
+}
