@@ -26,7 +26,7 @@ use Rattle.simplex_shards.specs.declared.classes.Locator.{Locator}
 use Rattle.simplex_shards.specs.declared.index.Row.{Row}
 use Rattle.simplex_shards.specs.declared.peek.Peeked.{Peeked}
 use Rattle.simplex_shards.specs.declared.ranges.Range.{Range}
-use Rattle.simplex_shards.proofs.IndexLemmas.{class_bytes, rows_within}
+use Rattle.simplex_shards.proofs.IndexLemmas.{class_bytes, rows_filled, rows_within}
 use Rattle.simplex_shards.proofs.PartBytes.{part_of_rows}
 use Rattle.simplex_shards.proofs.RangeLemmas.{no_ranges, ranges_more}
 use Rattle.simplex_shards.proofs.SplitLemmas.{all_within, empty_at, empty_count, length_set, view_at, view_before, view_beside}
@@ -242,5 +242,6 @@ located_all format round row_of is_row some class classes below stream rest read
                 (omega (arith, len, length-append (flat_map format.encoding ms) rest)))
                 (class_bytes round format.encoding row_of is_row class i stream [] rest ms p.are_messages.whole) are,
             are.apart,
+            are.filled (rows_filled round format.encoding row_of is_row some 0 ms),
           );
     }

@@ -1,5 +1,5 @@
 -- The rows of a stream's messages.
-use Rattle.std.proofs.Common.{◌≡◌, ◌+◌, ◌≤◌, ◌==◌, ℕ, Bool, true, false, cond, List, [], ◌∷◌, ◌++◌, length, take, drop, Option, Some, None, refl, sym, ap, subst, ◌∙◌, arith, append_assoc, length-append}
+use Rattle.std.proofs.Common.{◌≡◌, ◌+◌, ◌≤◌, ◌==◌, ◌<◌, ℕ, Bool, true, false, cond, List, [], ◌∷◌, ◌++◌, length, take, drop, Option, Some, None, refl, sym, ap, subst, ◌∙◌, arith, append_assoc, length-append}
 use Rattle.std.specs.Prelude.{All}
 use Rattle.std.specs.List.{flat_map, sum_by}
 use Rattle.std.proofs.lemmas.List.Elements.{All-cons, All-nil}
@@ -51,6 +51,16 @@ module _ {M : Type 0} (round : M → Round) (encoding : M → List ℕ) (row_of 
       All-cons (λ row. row.place + row.length ≤ n) (row_of place m)
       (rows_from row_of encoding (place + length (encoding m)) ms) (omega (arith, at, size, room, whole))
       (rows_within n (place + length (encoding m)) ms (omega (arith, room, whole)))
+
+  -- no row is empty
+  pub rows_filled : ((m : M) → 0 < length (encoding m)) → (place : ℕ) (ms : List M) →
+      All (λ row. 0 < row.length) (rows_from row_of encoding place ms)
+  rows_filled some place [] = All-nil (λ row. 0 < row.length)
+  rows_filled some place (m ∷ ms) =
+      let size = (is_row place m).length_is in
+      let longer = some m in
+      All-cons (λ row. 0 < row.length) (row_of place m) (rows_from row_of encoding (place + length (encoding m)) ms)
+      (omega (arith, size, longer)) (rows_filled some (place + length (encoding m)) ms)
 
   -- the bytes of a row are its message
   row_bytes : (stream front rest : List ℕ) (m : M) → stream ≡ front ++ (encoding m ++ rest) →

@@ -100,27 +100,40 @@ appended_apart (x ∷ []) r h = elim (cases_Bool (is_next x r)) [
 ]
 appended_apart (x ∷ y ∷ rs) r h = apart_from (end_of_range x) y rs r h
 
-appended_within : (n : ℕ) (rs : List Range) (r : Range) → All (λ x. end_of_range x ≤ n) rs → end_of_range r ≤ n →
-    All (λ x. end_of_range x ≤ n) (appended rs r)
-appended_within n [] r each one = All-cons (λ x. end_of_range x ≤ n) r [] one (All-nil _)
-appended_within n (x ∷ []) r each one = elim (cases_Bool (is_next x r)) [
-  | inl next ↦
-      let same = eqb-true (end_of_range x) r.place next in
-      subst (All (λ x. end_of_range x ≤ n)) (sym (cond-true (is_next x r) _ _ next))
-      (All-cons (λ x. end_of_range x ≤ n) (joined x r) [] (omega (arith, same, one)) (All-nil _))
-  | inr apart ↦ subst (All (λ x. end_of_range x ≤ n)) (sym (cond-false (is_next x r) _ _ apart))
-      (All-append (λ x. end_of_range x ≤ n) (x ∷ []) (r ∷ []) each
-      (All-cons (λ x. end_of_range x ≤ n) r [] one (All-nil _)))
+-- what holds of ranges, of a further one, and of joined ones
+appended_each : (P : Range → Type 0) → ((x r : Range) → is_next x r ≡ true → P x → P r → P (joined x r)) →
+    (rs : List Range) (r : Range) → All P rs → P r → All P (appended rs r)
+appended_each P join [] r each one = All-cons P r [] one (All-nil P)
+appended_each P join (x ∷ []) r each one = elim (cases_Bool (is_next x r)) [
+  | inl next ↦ subst (All P) (sym (cond-true (is_next x r) _ _ next))
+      (All-cons P (joined x r) [] (join x r next (All-head P x [] each) one) (All-nil P))
+  | inr apart ↦ subst (All P) (sym (cond-false (is_next x r) _ _ apart))
+      (All-append P (x ∷ []) (r ∷ []) each (All-cons P r [] one (All-nil P)))
 ]
-appended_within n (x ∷ y ∷ rs) r each one =
-    All-cons (λ x. end_of_range x ≤ n) x (appended (y ∷ rs) r) (All-head (λ x. end_of_range x ≤ n) x (y ∷ rs) each)
-    (appended_within n (y ∷ rs) r (All-tail (λ x. end_of_range x ≤ n) x (y ∷ rs) each) one)
+appended_each P join (x ∷ y ∷ rs) r each one =
+    All-cons P x (appended (y ∷ rs) r) (All-head P x (y ∷ rs) each)
+    (appended_each P join (y ∷ rs) r (All-tail P x (y ∷ rs) each) one)
+
+-- where the later of joined ranges ends both end
+joined_within : (n : ℕ) (x r : Range) → is_next x r ≡ true → end_of_range x ≤ n → end_of_range r ≤ n →
+    end_of_range (joined x r) ≤ n
+joined_within n x r next first one =
+    let same = eqb-true (end_of_range x) r.place next in
+    omega (arith, same, one)
+
+joined_filled : (x r : Range) → is_next x r ≡ true → 0 < x.length → 0 < r.length → 0 < (joined x r).length
+joined_filled x r next first one = omega (arith, first, one)
 
 -- ---- row after row
 
 module _ (class : Round → ℕ) (i : ℕ) where
   pub no_ranges : AreRanges class i [] []
-  no_ranges = record { bytes = λ stream. refl; apart = tt; within = λ n each. All-nil (λ r. end_of_range r ≤ n) }
+  no_ranges = record {
+    bytes = λ stream. refl;
+    apart = tt;
+    within = λ n each. All-nil (λ r. end_of_range r ≤ n);
+    filled = λ each. All-nil (λ r. 0 < r.length);
+  }
 
   -- the row after some rows, whose class is here
   after : (rows : List Row) (row : Row) (here : Bool) → (class (row_round row) == i) ≡ here →
@@ -129,13 +142,11 @@ module _ (class : Round → ℕ) (i : ℕ) where
       filter-append (λ (x : Row). class (row_round x) == i) rows (row ∷ [])
       ∙ ap (λ (b : Bool). rows_of_class class i rows ++ cond b (row ∷ []) []) is
 
-  each_before : (n : ℕ) (rows : List Row) (row : Row) → All (λ x. x.place + x.length ≤ n) (rows ++ row ∷ []) →
-      All (λ x. x.place + x.length ≤ n) rows × (row.place + row.length ≤ n)
-  each_before n [] row each = (All-nil _, All-head (λ x. x.place + x.length ≤ n) row [] each)
-  each_before n (x ∷ rows) row each =
-      let others = each_before n rows row (All-tail (λ x. x.place + x.length ≤ n) x (rows ++ row ∷ []) each) in
-      let one = All-head (λ x. x.place + x.length ≤ n) x (rows ++ row ∷ []) each in
-      (All-cons (λ x. x.place + x.length ≤ n) x rows one others.0, others.1)
+  each_before : (P : Row → Type 0) (rows : List Row) (row : Row) → All P (rows ++ row ∷ []) → All P rows × P row
+  each_before P [] row each = (All-nil P, All-head P row [] each)
+  each_before P (x ∷ rows) row each =
+      let others = each_before P rows row (All-tail P x (rows ++ row ∷ []) each) in
+      (All-cons P x rows (All-head P x (rows ++ row ∷ []) each) others.0, others.1)
 
   -- one row more
   pub ranges_more : (rows : List Row) (row : Row) (rs new : List Range) → AreRanges class i rows rs →
@@ -151,8 +162,11 @@ module _ (class : Round → ℕ) (i : ℕ) where
               ∙ ap (flat_map (bytes_at stream)) (sym (after rows row true here)))));
           apart = appended_apart rs (range_of_row row) before.apart;
           within = λ n each.
-              let parts = each_before n rows row each in
-              appended_within n rs (range_of_row row) (before.within n parts.0) parts.1;
+              let parts = each_before (λ x. x.place + x.length ≤ n) rows row each in
+              appended_each (λ r. end_of_range r ≤ n) (joined_within n) rs (range_of_row row) (before.within n parts.0) parts.1;
+          filled = λ each.
+              let parts = each_before (λ x. 0 < x.length) rows row each in
+              appended_each (λ r. 0 < r.length) joined_filled rs (range_of_row row) (before.filled parts.0) parts.1;
         })
     | inr other ↦ subst (AreRanges class i (rows ++ row ∷ []))
         (sym (same ∙ cond-false (class (row_round row) == i) _ _ other)) (record {
@@ -160,6 +174,7 @@ module _ (class : Round → ℕ) (i : ℕ) where
               ∙ ap (flat_map (bytes_at stream))
               (sym (after rows row false other ∙ append-nil (rows_of_class class i rows)));
           apart = before.apart;
-          within = λ n each. before.within n (each_before n rows row each).0;
+          within = λ n each. before.within n (each_before (λ x. x.place + x.length ≤ n) rows row each).0;
+          filled = λ each. before.filled (each_before (λ x. 0 < x.length) rows row each).0;
         })
   ]

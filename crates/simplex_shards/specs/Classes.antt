@@ -19,7 +19,8 @@ abbrev pub ranges_in : ClassRanges → List (List Range)
 ranges_in found = items_in found.ranges
 
 -- These are the ranges of a stream's messages up to its end or first fault, for each of so many classes. What stands in the
--- ranges of a class are its messages, in their order, and neighbours are joined. Each message is of one class.
+-- ranges of a class are its messages, in their order. Neighbours are joined, and no range is empty. Each message is of one
+-- class.
 pub record AreClassRanges {M : Type 0} (format : Format M) (round : M → Round) (class : Round → ℕ) (classes : ℕ)
     (stream : List ℕ) (found : ClassRanges) : Type 0 where
   pub messages : List M
@@ -30,7 +31,7 @@ pub record AreClassRanges {M : Type 0} (format : Format M) (round : M → Round)
   pub count : length (ranges_in found) ≡ classes
   pub one : All (λ m. class (round m) < classes) messages
   pub each : (i : ℕ) (ranges : List Range) → slice_get (ranges_in found) i ≡ Some ranges →
-      ArePart format round class i stream ranges × AreApart ranges
+      ArePart format round class i stream ranges × AreApart ranges × All (λ r. 0 < r.length) ranges
 
 -- ---- message after message
 

@@ -51,12 +51,13 @@ AreApart [] = ⊤
 AreApart (range ∷ others) = AreApartFrom (end_of_range range) others
 
 -- The ranges have the bytes of the rows of one class, in their order, in every stream. No range begins where the one before it
--- ends, and none ends past where the rows end.
+-- ends, none ends past where the rows end, and none is empty if no row is.
 pub record AreRanges (class : Round → ℕ) (i : ℕ) (rows : List Row) (ranges : List Range) : Type 0 where
   pub bytes : (stream : List ℕ) →
       flat_map (range_bytes stream) ranges ≡ flat_map (bytes_at stream) (rows_of_class class i rows)
   pub apart : AreApart ranges
   pub within : (n : ℕ) → All (λ row. row.place + row.length ≤ n) rows → All (λ r. end_of_range r ≤ n) ranges
+  pub filled : All (λ row. 0 < row.length) rows → All (λ r. 0 < r.length) ranges
 
 -- ---- what an audit reads of ranges
 

@@ -57,9 +57,9 @@ impl Locator {
 }
 
 /// Where the messages of each class stand in a stream, up to its end or first fault. Neighbours are joined: of a class no range
-/// begins where the one before it ends. Fed to an auditor one after another, the ranges of a class are its part. The stream is
-/// read once, and certificates under `bound`, the number of participants of the greatest committee. Nothing is verified.
-/// `AllocError` is returned only after an allocation failed.
+/// begins where the one before it ends. No range is empty. Fed to an auditor one after another, the ranges of a class are its
+/// part. The stream is read once, and certificates under `bound`, the number of participants of the greatest committee. Nothing
+/// is verified. `AllocError` is returned only after an allocation failed.
 pub fn class_ranges<M: Peek + Drop>(
     alloc: Global,
     bound: u32,

@@ -46,9 +46,9 @@ impl Row {
 }
 
 /// Where the messages of one class stand, in the order of the rows. Neighbours are joined: no range begins where the one before
-/// it ends. Fed to an auditor one after another they are the part of this class. The rows are those that
-/// [`index`](crate::index::index) returns, of the whole stream or of any neighbouring messages. `AllocError` is returned only
-/// after an allocation failed.
+/// it ends. No range is empty if no row is. Fed to an auditor one after another they are the part of this class. The rows are
+/// those that [`index`](crate::index::index) returns, of the whole stream or of any neighbouring messages. `AllocError` is
+/// returned only after an allocation failed.
 pub fn ranges(alloc: Global, rows: &[Row], cut: &Cut, class: u32) -> Result<Vec<Range>, AllocError>
     requires { All (λ row. row.place + row.length < 2 ^ 64) rows.now }
     ensures { IfOk result (λ ranges. AreRanges (class_under cut.now) class rows.now ranges.items) }
