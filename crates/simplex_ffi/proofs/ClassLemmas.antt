@@ -9,6 +9,7 @@ use Rattle.simplex_base.specs.Format.{Format}
 use Rattle.simplex_base.specs.Positions.{Round}
 use Rattle.simplex_shards.specs.Classes.{AreClassRanges, ranges_in}
 use Rattle.simplex_shards.specs.declared.classes.ClassRanges.{ClassRanges}
+use Rattle.simplex_shards.specs.declared.index.Row.{Row}
 use Rattle.simplex_shards.specs.declared.ranges.Range.{Range}
 use Rattle.simplex_ffi.specs.Rows.{all_ranges, ends_from}
 
@@ -67,9 +68,9 @@ found_laid_out found parts same ranges ends laid = (
 )
 
 -- the ranges of classes under a cut that is known
-pub found_as : {M : Type 0} {format : Format M} {round : M → Round} {cut class : Round → ℕ} {n classes : ℕ} {stream : List ℕ}
-    {found : ClassRanges} → cut ≡ class → n ≡ classes → AreClassRanges format round cut n stream found →
-    AreClassRanges format round class classes stream found
-found_as {M} {format} {round} {cut} {class} {n} {classes} {stream} {found} by many are =
-    subst (λ (f : Round → ℕ). AreClassRanges format round f classes stream found) by
-    (subst (λ (k : ℕ). AreClassRanges format round cut k stream found) many are)
+pub found_as : {M : Type 0} {format : Format M} {round : M → Round} {row_of : ℕ → M → Row} {cut class : Round → ℕ}
+    {n classes : ℕ} {stream : List ℕ} {found : ClassRanges} → cut ≡ class → n ≡ classes →
+    AreClassRanges format round row_of cut n stream found → AreClassRanges format round row_of class classes stream found
+found_as {M} {format} {round} {row_of} {cut} {class} {n} {classes} {stream} {found} by many are =
+    subst (λ (f : Round → ℕ). AreClassRanges format round row_of f classes stream found) by
+    (subst (λ (k : ℕ). AreClassRanges format round row_of cut k stream found) many are)

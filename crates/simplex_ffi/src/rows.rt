@@ -36,7 +36,7 @@ impl<S: Listing<D>, D: Digest> Indexed<D> for S {
         ⟦<Activity<S, D> as Roundable>⟧.round_of ⟦<Activity<S, D> as Tabular>⟧.row_of };
 
     ghost are_class_ranges = { λ bound. AreClassRanges (format_under ⟦<Activity<S, D> as Read>⟧ bound)
-        ⟦<Activity<S, D> as Roundable>⟧.round_of };
+        ⟦<Activity<S, D> as Roundable>⟧.round_of ⟦<Activity<S, D> as Tabular>⟧.row_of };
 }
 
 /// The numbers of a table.

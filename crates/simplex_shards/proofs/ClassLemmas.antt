@@ -213,7 +213,7 @@ pub located_all : {M : Type 0} (format : Format M) (round : M → Round) (row_of
     (p : IsProgress format (λ ms. Locates row_of format.encoding class ms old new) stream rest read stop) →
     found.read ≡ read → ranges_in found ≡ located new →
     IsFault format.reading (length (flat_map format.encoding p.messages)) rest found.fault →
-    AreClassRanges format round class classes stream found
+    AreClassRanges format round row_of class classes stream found
 located_all format round row_of is_row some class classes below stream rest read stop old new found empty start p read_is same
     fault =
     let ms = p.messages in
@@ -241,7 +241,7 @@ located_all format round row_of is_row some class classes below stream rest read
                 (rows_within round format.encoding row_of is_row (length stream) 0 ms
                 (omega (arith, len, length-append (flat_map format.encoding ms) rest)))
                 (class_bytes round format.encoding row_of is_row class i stream [] rest ms p.are_messages.whole) are,
-            are.apart,
+            are,
             are.filled (rows_filled round format.encoding row_of is_row some 0 ms),
           );
     }

@@ -5,7 +5,7 @@ use Rattle.simplex_base.specs.Format.{Format}
 use Rattle.simplex_base.specs.Positions.{Round}
 use Rattle.simplex_stream.specs.Fault.{IsFault}
 use Rattle.simplex_stream.specs.Messages.{AreMessages}
-use Rattle.simplex_shards.specs.Ranges.{AreApart, ArePart, AreRanges, appended}
+use Rattle.simplex_shards.specs.Ranges.{ArePart, AreRanges, appended}
 use Rattle.simplex_shards.specs.Rows.{rows_from}
 use Rattle.simplex_shards.specs.Split.{items_in}
 use Rattle.simplex_shards.specs.declared.classes.ClassRanges.{ClassRanges}
@@ -18,11 +18,11 @@ use Rattle.simplex_shards.specs.declared.ranges.Range.{Range}
 abbrev pub ranges_in : ClassRanges → List (List Range)
 ranges_in found = items_in found.ranges
 
--- These are the ranges of a stream's messages up to its end or first fault, for each of so many classes. What stands in the
--- ranges of a class are its messages, in their order. Neighbours are joined, and no range is empty. Each message is of one
--- class.
-pub record AreClassRanges {M : Type 0} (format : Format M) (round : M → Round) (class : Round → ℕ) (classes : ℕ)
-    (stream : List ℕ) (found : ClassRanges) : Type 0 where
+-- These are the ranges of a stream's messages up to its end or first fault, for each of so many classes. The ranges of a class
+-- are where the rows of its messages say, so that its messages stand in them, in their order. Neighbours are joined, and no
+-- range is empty. Each message is of one class.
+pub record AreClassRanges {M : Type 0} (format : Format M) (round : M → Round) (row_of : ℕ → M → Row) (class : Round → ℕ)
+    (classes : ℕ) (stream : List ℕ) (found : ClassRanges) : Type 0 where
   pub messages : List M
   pub rest : List ℕ
   pub are_messages : AreMessages format stream messages rest
@@ -31,7 +31,8 @@ pub record AreClassRanges {M : Type 0} (format : Format M) (round : M → Round)
   pub count : length (ranges_in found) ≡ classes
   pub one : All (λ m. class (round m) < classes) messages
   pub each : (i : ℕ) (ranges : List Range) → slice_get (ranges_in found) i ≡ Some ranges →
-      ArePart format round class i stream ranges × AreApart ranges × All (λ r. 0 < r.length) ranges
+      ArePart format round class i stream ranges × AreRanges class i (rows_from row_of format.encoding 0 messages) ranges
+      × All (λ r. 0 < r.length) ranges
 
 -- ---- message after message
 

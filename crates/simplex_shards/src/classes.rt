@@ -66,7 +66,7 @@ pub fn class_ranges<M: Peek + Drop>(
     cut: &Cut,
     stream: &[u8],
 ) -> Result<ClassRanges, AllocError>
-    ensures { IfOk result (λ found. AreClassRanges (format_under ⟦<M as Read>⟧ bound) M.round_of
+    ensures { IfOk result (λ found. AreClassRanges (format_under ⟦<M as Read>⟧ bound) M.round_of M.row_of
         (class_under cut.now) (classes_of cut.now) stream.now found) }
 {
     let mut locator = Locator {
