@@ -196,6 +196,7 @@ module _ {M D G K : Type 0} (cmp : K → K → Ordering) (eq : K → K → Bool)
         vote_is = same_stands payload signature payload_eq signature_eq payload_is signature_is stream v w y.attestation epoch
             view signer kind (sym (alike v w) ∙ passes) stands.vote_is of_epoch of_view of_signer of_kind;
         begins = omega (arith, stands.begins);
+        before = stands.before;
         ends = stands.ends;
       })
 

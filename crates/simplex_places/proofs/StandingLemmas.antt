@@ -18,11 +18,12 @@ use Rattle.simplex_places.specs.Bytes.{IsVoteAt}
 use Rattle.simplex_places.specs.Places.{behind, certificate_places, message_places, pair_places, placed_at, places_from, signed_at, vote_places}
 use Rattle.simplex_places.specs.declared.places.Placed.{Placed}
 
--- the vote as it stands in the stream, its subject from one place on, and its signature before another
+-- the vote as it stands in the stream, its subject from one place on, and its signature behind that and before another place
 pub record Stands {D G : Type 0} (payload : Format D) (signature : Format G) (stream : List ℕ) (from to : ℕ)
     (v : SignedVote D G) (p : Placed) : Type 0 where
   pub vote_is : IsVoteAt payload signature stream v p.attestation
   pub begins : from ≤ p.attestation.subject_place
+  pub before : p.attestation.subject_place + p.attestation.subject_length ≤ p.attestation.verdict_place
   pub ends : p.attestation.verdict_place < to
 
 -- Certificates are encoded as the attestations that they list.
@@ -82,6 +83,7 @@ module _ {S D C P G : Type 0} (eq : D → D → Bool) (payload : Format D) (cert
               ∙ take_at (before ++ signed) tail (((next + length (bytes_of a)) - 1) + 1) long;
         };
         begins = begins;
+        before = omega (arith, at, after, size, some);
         ends = omega (arith, ends, size, some);
       }
 

@@ -1,5 +1,5 @@
 -- The evidence of a report as records, with the places of its votes in the stream.
-use Rattle.std.specs.Prelude.{◌≡◌, ℕ, ◌+◌, ◌-◌, ◌<◌, ◌^◌, Bool, List, length, Option, Some, None}
+use Rattle.std.specs.Prelude.{◌≡◌, ℕ, ◌+◌, ◌-◌, ◌<◌, ◌≤◌, ◌^◌, Bool, List, length, Option, Some, None}
 use Rattle.std.specs.BTreeMap.{BTreeMap, get}
 use Rattle.std.specs.List.{AllZip}
 use Rattle.std.specs.declared.cmp.Ordering.{Ordering}
@@ -43,13 +43,15 @@ vote_in found vote = record {
   kind = vote.kind;
 }
 
--- `s` is a vote as it stands in the first message that carries it, which begins at a place: its subject is behind the tag, and
--- its signature ends in the message. `stands` says whether an attestation is the vote, as it stands in the stream.
+-- `s` is a vote as it stands in the first message that carries it, which begins at a place: its subject is behind the tag, its
+-- verdict is behind the subject, and both are in the message. `stands` says whether an attestation is the vote, as it stands in
+-- the stream.
 pub record StandsFirst {M : Type 0} (carries : M → Bool) (stands : AttestationPlace → Type 0) (encoding : M → List ℕ)
     (messages : List M) (message_place : ℕ) (s : AttestationPlace) : Type 0 where
   pub first : IsFirstPlace carries encoding messages message_place
   pub vote_is : stands s
   pub begins : message_place < s.subject_place
+  pub before : s.subject_place + s.subject_length ≤ s.verdict_place
   pub ends : s.verdict_place < message_place + length (encoding first.message)
 
 -- The record is that of an evidence, with the places where the first messages begin that carry its votes, and both votes as
