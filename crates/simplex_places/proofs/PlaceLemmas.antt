@@ -1,11 +1,11 @@
 -- Votes that are noted, and the first message in which one is found.
 use Rattle.std.proofs.Common.{◌≡◌, ℕ, suc, ◌+◌, ◌<◌, ◌≤◌, ◌||◌, Bool, true, false, Option, Some, None, List, [], ◌∷◌, length, map, get_or, drop, zip, BTreeMap, Ordering, true≢false, refl, sym, ap, subst, ◌∙◌, arith, add-one, drop-cons, drop_of_length-le, length-append}
-use Rattle.std.specs.Prelude.{Contains, filter}
+use Rattle.std.specs.Prelude.{All, Contains, filter}
 use Rattle.std.specs.BTreeMap.{get}
 use Rattle.std.specs.List.{AllZip, flat_map, list_any}
 use Rattle.std.specs.Option.{option_or}
 use Rattle.std.proofs.lemmas.List.{nil_from_length}
-use Rattle.std.proofs.lemmas.List.Elements.{All-nil, All-cons, All-contains, All-contains_itself, All-filter}
+use Rattle.std.proofs.lemmas.List.Elements.{All-nil, All-cons, All-contains, All-contains_itself, All-filter, All-head, All-tail}
 use Rattle.std.proofs.lemmas.List.Folds.{list_any-append, list_any_at}
 use Rattle.simplex_base.specs.Format.{Format}
 use Rattle.simplex_base.specs.declared.codec.error.Error.{Error}
@@ -179,6 +179,14 @@ module _ {M X : Type 0} (test : M → Bool) (find : ℕ → M → Option X) (enc
   first_stands place [] some = absurd (true≢false (sym some))
   first_stands place (m ∷ ms) some =
       stands_either place m ms (test m) refl some (first_stands (place + length (encoding m)) ms)
+
+  -- no message passes, so nothing is found
+  pub none_stands : (place : ℕ) (ms : List M) → All (λ m. test m ≡ false) ms → first_found find encoding place ms ≡ None
+  none_stands place [] each = refl
+  none_stands place (m ∷ ms) each =
+      ap (λ (o : Option X). option_or o (first_found find encoding (place + length (encoding m)) ms))
+      (none place m (All-head (λ k. test k ≡ false) m ms each))
+      ∙ none_stands (place + length (encoding m)) ms (All-tail (λ k. test k ≡ false) m ms each)
 
 -- ---- what is found beside the votes of one message
 

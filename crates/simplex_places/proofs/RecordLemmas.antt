@@ -18,12 +18,12 @@ use Rattle.simplex_rules.specs.Evidence.{IsEquivocation}
 use Rattle.simplex_places.specs.Bytes.{IsVoteAt}
 use Rattle.simplex_places.specs.FirstPlaces.{AreSought, IsSought, NotesAlong, carried_at, first_found, found_in, or_found, votes_placed}
 use Rattle.simplex_places.specs.Places.{kind_number}
-use Rattle.simplex_places.specs.Records.{IsOfEvidence, IsRecord, StandsFirst, found_of, message_at, record_by, vote_at}
+use Rattle.simplex_places.specs.Records.{HasNowhere, IsOfEvidence, IsRecord, StandsFirst, StandsNowhere, found_of, message_at, record_by, vote_at}
 use Rattle.simplex_places.specs.Votes.{same_signed_vote, same_subject}
 use Rattle.simplex_places.specs.declared.first_places.Carried.{Carried}
 use Rattle.simplex_places.specs.declared.places.AttestationPlace.{AttestationPlace}
 use Rattle.simplex_places.specs.declared.places.Placed.{Placed}
-use Rattle.simplex_places.proofs.PlaceLemmas.{any_kept, first_stands, found_none, found_some}
+use Rattle.simplex_places.proofs.PlaceLemmas.{any_kept, first_stands, found_none, found_some, none_stands}
 use Rattle.simplex_places.proofs.StandingLemmas.{Stands}
 
 -- the signer and the kind of a vote, wherever it stands
@@ -233,6 +233,54 @@ module _ {M D G K : Type 0} (cmp : K → K → Ordering) (eq : K → K → Bool)
     records_stand value es (All-tail (IsEquivocation payload_eq (filter keep (flat_map votes messages))) (value e)
         (map value es) casts) (All-tail (λ e. AreSought cmp key_of before (value e)) e es sought),
   )
+
+-- ---- votes that were sought, and that no message carries
+
+module _ {M D G K : Type 0} (cmp : K → K → Ordering) (eq : K → K → Bool) (key_of : SignedVote D G → K)
+    (same : SignedVote D G → SignedVote D G → Bool)
+    (alike : (v w : SignedVote D G) → eq (key_of v) (key_of w) ≡ same v w)
+    (votes : M → List (SignedVote D G)) (places : ℕ → M → List Placed) (encoding : M → List ℕ) (messages : List M)
+    (before after : BTreeMap K (Option Carried))
+    (found : NotesAlong cmp eq key_of (votes_placed votes places) encoding 0 before after messages) where
+  -- whether a message carries a vote
+  abbrev bears : SignedVote D G → M → Bool
+  bears v m = list_any (same v) (votes m)
+
+  -- nothing was found of such a vote
+  none_found : (v : SignedVote D G) → IsSought cmp before (key_of v) → All (λ m. bears v m ≡ false) messages →
+      found_of (get cmp after (key_of v)) ≡ None
+  none_found v sought none =
+      let is_it : SignedVote D G → Bool = λ w. eq (key_of v) (key_of w) in
+      let test : M → Bool = λ m. list_any is_it (votes m) in
+      let find : ℕ → M → Option Carried = λ n m. found_in is_it (votes_placed votes places n m) in
+      let agree : (λ (m : M). list_any is_it (votes m)) ≡ bears v = λ i m. list_any (λ u. alike v u i) (votes m) in
+      let absent : All (λ m. test m ≡ false) messages =
+      subst (λ (carries : M → Bool). All (λ m. carries m ≡ false) messages) (sym agree) none in
+      ap found_of (found (key_of v)
+      ∙ (ap (λ (known : Option (Option Carried)). or_found known (first_found find encoding 0 messages)) sought
+      ∙ ap (or_found (Some None)) (none_stands test find encoding
+      (λ n m h. found_none is_it (votes m) (map (carried_at n) (places n m)) h) 0 messages absent)))
+
+  vote_nowhere : (v : SignedVote D G) (signer kind : ℕ) → IsSought cmp before (key_of v) →
+      All (λ m. bears v m ≡ false) messages →
+      StandsNowhere (message_at (found_of (get cmp after (key_of v)))) (vote_at signer kind (found_of (get cmp after (key_of v))))
+  vote_nowhere v signer kind sought none =
+      subst (λ (o : Option Carried). StandsNowhere (message_at o) (vote_at signer kind o)) (sym (none_found v sought none))
+      (record { message = refl; subject = refl; empty = refl; verdict = refl })
+
+  -- all of some evidence
+  pub records_nowhere : {E : Type 0} (value : E → Equivocation D G) (es : List E) →
+      All (λ e. AreSought cmp key_of before (value e)) es →
+      AllZip (HasNowhere bears messages) (map value es) (map (λ e. record_by cmp key_of after (value e)) es)
+  records_nowhere value [] sought = tt
+  records_nowhere value (e ∷ es) sought =
+      let (first, second) = All-head (λ e. AreSought cmp key_of before (value e)) e es sought in (
+        record {
+          first = vote_nowhere (value e).first (value e).first.signer (kind_number (kind_of (value e).first.subject)) first;
+          second = vote_nowhere (value e).second (value e).first.signer (kind_number (kind_of (value e).second.subject)) second;
+        },
+        records_nowhere value es (All-tail (λ e. AreSought cmp key_of before (value e)) e es sought),
+      )
 
 -- without evidence there are no records
 pub no_records : {A B E : Type 0} (R : A → B → Type 0) (value : E → A) (es : List E) (found : List B) → es ≡ [] → found ≡ [] →

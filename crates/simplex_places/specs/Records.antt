@@ -1,5 +1,5 @@
 -- The evidence of a report as records, with the places of its votes in the stream.
-use Rattle.std.specs.Prelude.{◌≡◌, ℕ, ◌+◌, ◌-◌, ◌<◌, ◌≤◌, ◌^◌, Bool, List, length, Option, Some, None}
+use Rattle.std.specs.Prelude.{◌≡◌, ℕ, ◌+◌, ◌-◌, ◌<◌, ◌≤◌, ◌^◌, Bool, false, List, length, All, Option, Some, None}
 use Rattle.std.specs.BTreeMap.{BTreeMap, get}
 use Rattle.std.specs.List.{AllZip}
 use Rattle.std.specs.declared.cmp.Ordering.{Ordering}
@@ -71,6 +71,25 @@ abbrev pub AreRecords : {S D C P G : Type 0} → Basis S D C P G → (SignedVote
 AreRecords basis carries stands stream report records =
     OfMessages basis stream (λ messages. AllZip (IsRecord carries (stands stream) basis.format.encoding messages)
     (evidence_in report) records)
+
+-- a vote stands nowhere: each offset is 2^64 - 1, and its subject has no bytes
+pub record StandsNowhere (message_place : ℕ) (vote : VotePlace) : Type 0 where
+  pub message : message_place ≡ 2 ^ 64 - 1
+  pub subject : vote.subject_place ≡ 2 ^ 64 - 1
+  pub empty : vote.subject_length ≡ 0
+  pub verdict : vote.verdict_place ≡ 2 ^ 64 - 1
+
+-- in the record of an evidence each vote that no message carries stands nowhere
+pub record HasNowhere {M D G : Type 0} (carries : SignedVote D G → M → Bool) (messages : List M) (e : Equivocation D G)
+    (found : Record) : Type 0 where
+  pub first : All (λ m. carries e.first m ≡ false) messages → StandsNowhere found.first_place found.first_vote
+  pub second : All (λ m. carries e.second m ≡ false) messages → StandsNowhere found.second_place found.second_vote
+
+-- In the records of the evidence of any report, each vote that no message of this stream carries stands nowhere.
+abbrev pub HaveNowhere : {S D C P G : Type 0} → Basis S D C P G → (SignedVote D G → Activity S D C P G → Bool) → List ℕ →
+    Report S D P G → List Record → Type 0
+HaveNowhere basis carries stream report records =
+    OfMessages basis stream (λ messages. AllZip (HasNowhere carries messages) (evidence_in report) records)
 
 -- what was found of a key, if it was
 abbrev pub found_of : {X : Type 0} → Option (Option X) → Option X

@@ -9,7 +9,7 @@ ghost use Rattle.simplex_audit.specs.Report.{evidence_in};
 ghost use Rattle.simplex_rules.specs.Accusation.{kind_rank};
 ghost use Rattle.simplex_rules.specs.Values.{evidence_value};
 ghost use Rattle.simplex_places.specs.Places.{kind_number};
-ghost use Rattle.simplex_places.specs.Records.{AreRecords, IsOfEvidence, found_of, message_at, record_by, vote_at};
+ghost use Rattle.simplex_places.specs.Records.{AreRecords, HaveNowhere, IsOfEvidence, found_of, message_at, record_by, vote_at};
 
 use crate::first_places::{Carried, find, sought};
 use crate::located::{Counted, Located};
@@ -201,6 +201,9 @@ fn records_by<K: Key<D, S::Signature>, S: Counted<D>, D: Digest>(
         IsAudit (⟦<S as Audited<D>>⟧.basis committees.now) stream.now report.now →
         AreRecords (⟦<S as Audited<D>>⟧.basis committees.now) ⟦<S as Located<D>>⟧.carries
         ⟦<S as Located<D>>⟧.stands stream.now report.now found.items) }
+    ensures nowhere { IfOk result (λ found.
+        HaveNowhere (⟦<S as Audited<D>>⟧.basis committees.now) ⟦<S as Located<D>>⟧.carries
+        stream.now report.now found.items) }
 {
     let evidence = report.evidence.as_slice();
     let keys = sought::<K, S, D>(alloc, evidence)?;
@@ -210,9 +213,10 @@ fn records_by<K: Key<D, S::Signature>, S: Counted<D>, D: Digest>(
 
 /// The evidence of the report of a stream as records, in the order of the report, each with its two votes as they stand in
 /// the stream: in the first message that carries the vote its subject, and where its signature ends. The report has to be that
-/// of this stream under these committees; a vote of another one may stand [`NOWHERE`]. If there is evidence the stream is read
-/// a second time, and nothing is verified: each vote is looked up among those of the evidence. Memory is bounded by the report
-/// and the longest certificate of the stream. `AllocError` is returned only after an allocation failed.
+/// of this stream under these committees; a vote of another report stands [`NOWHERE`] if no message of this stream carries it.
+/// If there is evidence the stream is read a second time, and nothing is verified: each vote is looked up among those of the
+/// evidence. Memory is bounded by the report and the longest certificate of the stream. `AllocError` is returned only after an
+/// allocation failed.
 pub fn records<S: Counted<D>, D: Digest>(
     alloc: Global,
     committees: &Committees<S>,
@@ -230,6 +234,10 @@ where
         IsAudit (⟦<S as Audited<D>>⟧.basis committees.now) stream.now report.now →
         AreRecords (⟦<S as Audited<D>>⟧.basis committees.now) ⟦<S as Located<D>>⟧.carries
         ⟦<S as Located<D>>⟧.stands stream.now report.now found.items) }
+    // For any report, each vote that no message of this stream carries stands nowhere.
+    ensures nowhere { IfOk result (λ found.
+        HaveNowhere (⟦<S as Audited<D>>⟧.basis committees.now) ⟦<S as Located<D>>⟧.carries
+        stream.now report.now found.items) }
 {
     if report.evidence.as_slice().is_empty() {
         return Ok(Vec::new(alloc));

@@ -4,18 +4,21 @@ use Rattle.std.specs.List.{AllZip}
 use Rattle.std.proofs.lemmas.Result.{IfOk-weaker}
 use Rattle.simplex_base.specs.Format.{Format, fixed}
 use Rattle.simplex_evidence.specs.Activity.{activity_format, votes_in}
+use Rattle.simplex_evidence.specs.ActivityLaws.{activity_lawful}
 use Rattle.simplex_evidence.specs.declared.types.activity.Activity.{Activity}
+use Rattle.simplex_scheme.specs.Committees.{bound_of}
 use Rattle.simplex_rules.specs.Scheme.{rules_of, scheme_of}
 use Rattle.simplex_rules.specs.Rules.{is_valid}
 use Rattle.simplex_rules.specs.Values.{evidence_value}
 use Rattle.simplex_votes.specs.Votes.{SignedVote}
 use Rattle.simplex_stream.specs.Messages.{AreMessages}
+use Rattle.simplex_stream.specs.StreamLaws.{messages_once}
 use Rattle.simplex_places.specs.Bytes.{IsVoteAt}
 use Rattle.simplex_places.specs.FirstPlaces.{AreSought, NotesAlong, votes_placed}
 use Rattle.simplex_places.specs.Places.{message_places}
-use Rattle.simplex_places.specs.Records.{IsOfEvidence, IsRecord}
+use Rattle.simplex_places.specs.Records.{HasNowhere, IsOfEvidence, IsRecord}
 use Rattle.simplex_places.specs.Votes.{carries, same_signed_vote}
-use Rattle.simplex_places.proofs.RecordLemmas.{all_of_evidence, records_stand}
+use Rattle.simplex_places.proofs.RecordLemmas.{all_of_evidence, records_nowhere, records_stand}
 use Rattle.simplex_places.proofs.StandingLemmas.{message_within}
 use Rattle.simplex_places.proofs.records.records_by.Given as given
 use Rattle.simplex_places.proofs.records.records_by.Goals as goal
@@ -90,4 +93,37 @@ returns-clause-records g c = IfOk-weaker c.listed.result _ _ (λ found is audit 
     in
     subst (AllZip (IsRecord (carries payload_eq signature_eq listed) (IsVoteAt (payload g) (signature g) c.args.stream.now)
     encoding messages) (map evidence_value es)) (sym (is ∙ ap (map _) c.as_slice-evidence.ensures.value)) stand)
+    c.listed.ensures
+
+pub returns-clause-nowhere : goal.returns-clause-nowhere
+returns-clause-nowhere g c = IfOk-weaker c.listed.result _ _ (λ found is messages rest are.
+    let cmp = g.K.Ord.cmp in
+    let eq = g.K.PartialEq.eq in
+    let key_of = g.K.Key.key_of in
+    let payload_eq = g.D.PartialEq.eq in
+    let signature_eq = g.S.Signature.PartialEq.eq in
+    let listed = g.S.Listing.listed in
+    let es = c.args.report.now.evidence.items in
+    let before = c.in_ok-keys.keys in
+    let after = c.in_ok-places.places in
+    let noted = c.in_ok-places.ensures in
+    let bound = bound_of g.S.CertificateScheme.keys c.args.committees.now in
+    let law = activity_lawful payload_eq (payload g) (record {
+      is_value = g.S.Certificate.Read.fits bound;
+      encoding = g.S.Certificate.Encoding.encoding;
+      reading = g.S.Certificate.Read.reading bound;
+    }) (signature g) g.met.D.Fixed.lawful (g.met.S.Certificate.Read.lawful bound) g.met.S.Signature.Fixed.lawful in
+    let bounded = subst (λ b. AreMessages (format g b) c.args.stream.now noted.messages noted.rest) c.bound.ensures.value
+    noted.are_messages in
+    let same = (messages_once (format g bound) law c.args.stream.now rest noted.rest messages noted.messages are bounded).0 in
+    let encoding = (format g bound).encoding in
+    let places = message_places (payload g) (signature g) listed in
+    let noted_all = subst (NotesAlong cmp eq key_of (votes_placed (votes_in listed) places) encoding 0 before after) (sym same)
+    noted.found in
+    let sought = subst (All (λ e. AreSought cmp key_of before (evidence_value e))) c.as_slice-evidence.ensures.value
+    c.in_ok-keys.ensures in
+    let nowhere = records_nowhere cmp eq key_of (same_signed_vote payload_eq signature_eq) g.met.K.Key.alike (votes_in listed)
+    places encoding messages before after noted_all evidence_value es sought in
+    subst (AllZip (HasNowhere (carries payload_eq signature_eq listed) messages) (map evidence_value es))
+    (sym (is ∙ ap (map _) c.as_slice-evidence.ensures.value)) nowhere)
     c.listed.ensures
