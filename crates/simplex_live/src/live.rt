@@ -1,6 +1,7 @@
 //! `audit_live` as a function over its arguments, its files and its streams.
 
-ghost use Rattle.std.specs.Prelude.{◌≡◌, false, Err, IfOk, IfSome, IsTrue, OnErr, map, string_bytes};
+ghost use Rattle.std.specs.Prelude.{◌≡◌, ◌≢◌, false, Err, IfErr, IfOk, IfSome, IsTrue, OnErr, map, string_bytes};
+ghost use Rattle.std.specs.IoError.{error_kind};
 ghost use Rattle.std.specs.Vec.Iter.{into_iter_items};
 ghost use Rattle.simplex_audit.specs.Outcome.{reader_use, writer_use};
 ghost use Rattle.simplex_cli.specs.Arguments.{words_of};
@@ -34,7 +35,7 @@ use std::alloc::Global;
 use std::env::Args;
 use std::fs::{File, Files};
 use std::io;
-use std::io::{Read, Write};
+use std::io::{ErrorKind, Read, Write};
 
 /// Listens as the options say under the committees that texts name: those of the words behind what the scheme has in common.
 fn hear<S: Named + Listing<Sha256Digest>, F: Files<File = File>, R: Read, W: Write, E: Write>(
@@ -344,6 +345,9 @@ pub fn start_live<F: Files<File = File>, R: Read, W: Write, E: Write>(
     // If the input or the output failed, the number is 3.
     ensures read_failed { IsTrue (has_failed input.new) → result ≡ 3 }
     ensures write_failed { IsTrue (has_failed output.new) → result ≡ 3 }
+    // If the arguments cannot be read, it is 3 after an allocation failure, else 2.
+    ensures memory { IfErr given (λ error. error_kind error ≡ ErrorKind.OutOfMemory → result ≡ 3) }
+    ensures usage { IfErr given (λ error. error_kind error ≢ ErrorKind.OutOfMemory → result ≡ 2) }
     ensures unused { OnErr given ((input.new ≡ input.old) × (output.new ≡ output.old)) }
 {
     let given = match given {

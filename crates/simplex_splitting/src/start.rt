@@ -1,7 +1,8 @@
 //! `audit_split` as a function over its arguments, its files and its output.
 
-ghost use Rattle.std.specs.Prelude.{◌≡◌, ◌↔◌, false, Err, IfOk, IsTrue, OnErr, map, string_bytes};
+ghost use Rattle.std.specs.Prelude.{◌≡◌, ◌≢◌, ◌↔◌, false, Err, IfErr, IfOk, IsTrue, OnErr, map, string_bytes};
 ghost use Rattle.std.specs.Int.NonZero.{non_zero_u32_get};
+ghost use Rattle.std.specs.IoError.{error_kind};
 ghost use Rattle.std.specs.Vec.Iter.{into_iter_items};
 ghost use Rattle.simplex_audit.specs.Outcome.{writer_use};
 ghost use Rattle.simplex_cli.specs.Arguments.{words_of};
@@ -27,7 +28,7 @@ use std::alloc::Global;
 use std::env::Args;
 use std::fs::{File, Files};
 use std::io;
-use std::io::Write;
+use std::io::{ErrorKind, Write};
 
 /// Messages whose signatures the caller verified.
 type Verdicts<R, const N: usize> = Activity<Vouched<R, N>, Sha256Digest>;
@@ -146,6 +147,9 @@ pub fn start_split<F: Files<File = File>, W: Write, E: Write>(
         (writer_use W.contents output.old output.new) ending) }
     // If the output failed the number is 3.
     ensures failed { IsTrue (has_failed output.new) → result ≡ 3 }
+    // If the arguments cannot be read it is 3 after an allocation failure, else 2.
+    ensures memory { IfErr given (λ error. error_kind error ≡ ErrorKind.OutOfMemory → result ≡ 3) }
+    ensures usage { IfErr given (λ error. error_kind error ≢ ErrorKind.OutOfMemory → result ≡ 2) }
     ensures unused { OnErr given (output.new ≡ output.old) }
 {
     let given = match given {
