@@ -7,7 +7,7 @@ use Rattle.simplex_cli.specs.declared.status.Status.{Status}
 use Rattle.simplex_cli.specs.declared.status.Status.TheVariants as statuses
 use Rattle.simplex_cli.specs.declared.verdicts.SignatureSize.{SignatureSize}
 use Rattle.simplex_cli.specs.declared.verdicts.SignatureSize.TheVariants.{Bytes48, Bytes64, Bytes96}
-use Rattle.simplex_splitting.specs.Files.{NamesPart}
+use Rattle.simplex_splitting.specs.Files.{IsFirstPart, NamesPart}
 use Rattle.simplex_splitting.specs.Options.{AreBehindOptions}
 use Rattle.simplex_splitting.specs.declared.complaints.Trouble.{Trouble}
 use Rattle.simplex_splitting.specs.declared.complaints.Trouble.TheVariants as troubles
@@ -97,13 +97,13 @@ abbrev pub AreNoParts : Options → List (List ℕ) → Type 0
 AreNoParts options files =
     All (λ name. ¬ NamesPart options.division.prefix.now (non_zero_u32_get options.division.classes) name) files
 
--- how a run under these options ends: files of which one has the name of a part are refused before anything is written
+-- how a run under these options ends: if a file has the name of a part, the first such is refused before anything is written
 abbrev pub OptionsEnd : Readings → Options → List (List ℕ) → WriterUse → SplitEnding → Type 0
 OptionsEnd readings options files writer ending =
     (AreNoParts options files × FilesEnd (reads_of readings options.signature (non_zero_u32_get options.division.bound))
     files writer ending)
-    ⊎ ((¬ AreNoParts options files) × Keeps writer.before writer.after
-    × ((place : ℕ) × (ending ≡ Err (troubles.PartNamed place))))
+    ⊎ (Keeps writer.before writer.after × ((place : ℕ) × (ending ≡ Err (troubles.PartNamed place))
+    × IsFirstPart options.division.prefix.now (non_zero_u32_get options.division.classes) files place))
 
 -- how a run ends
 abbrev pub SplitEnds : Readings → List (List ℕ) → WriterUse → SplitEnding → Type 0

@@ -1,5 +1,5 @@
 -- The files of the parts.
-use Rattle.std.specs.Prelude.{⊤, ◌≡◌, ◌<◌, ◌++◌, ℕ, List, Result, Ok, Err, codes, decimal}
+use Rattle.std.specs.Prelude.{◌≡◌, ◌<◌, ◌++◌, ℕ, List, [], codes, decimal, get_or, length}
 use Rattle.simplex_splitting.specs.declared.complaints.Trouble.{Trouble}
 use Rattle.simplex_splitting.specs.declared.complaints.Trouble.TheVariants.{PartNamed}
 
@@ -8,8 +8,13 @@ abbrev pub NamesPart : List ℕ → ℕ → List ℕ → Type 0
 NamesPart prefix classes name =
     (class : ℕ) × (class < classes) × (name ≡ prefix ++ (codes "." ++ decimal class))
 
--- if there is a trouble, it is that a file has the name of a part
-abbrev pub IsPartNamed : {X : Type 0} → Result X Trouble → Type 0
-IsPartNamed (Ok x) = ⊤
-IsPartNamed (Err (PartNamed place)) = ⊤
-IsPartNamed (Err _) = ⊥
+-- The file at this place has the name of a part, and none before it.
+pub record IsFirstPart (prefix : List ℕ) (classes : ℕ) (names : List (List ℕ)) (place : ℕ) : Type 0 where
+  pub within : place < length names
+  pub named : NamesPart prefix classes (get_or names place [])
+  pub before : (k : ℕ) → k < place → ¬ NamesPart prefix classes (get_or names k [])
+
+-- the trouble is that of the first file with the name of a part
+abbrev pub IsPartNamed : List ℕ → ℕ → List (List ℕ) → Trouble → Type 0
+IsPartNamed prefix classes names (PartNamed place) = IsFirstPart prefix classes names place
+IsPartNamed prefix classes names _ = ⊥

@@ -1,6 +1,6 @@
 //! The files of the parts: those with a prefix, a dot and the number of a class as their names.
 
-ghost use Rattle.std.specs.Prelude.{◌≡◌, ◌≢◌, ◌↔◌, All, Err, IsTrue, OnErr, OnOk, map, string_bytes};
+ghost use Rattle.std.specs.Prelude.{◌≡◌, ◌≢◌, ◌↔◌, All, Err, IfErr, IsTrue, OnOk, map, string_bytes};
 ghost use Rattle.simplex_splitting.specs.Files.{IsPartNamed, NamesPart};
 
 use crate::complaints::Trouble;
@@ -56,11 +56,13 @@ impl<'a, F: Files<File = File>> FileParts<'a, F> {
 }
 
 impl<'a, F: Files<File = File>> Parts for FileParts<'a, F> {
-    ghost use Rattle.std.specs.Prelude.{None, is_some};
+    ghost use Rattle.std.specs.Prelude.{None, is_some, unwrap_or};
 
     ghost contents = { λ _ _. None };
 
     ghost has_failed = { λ parts. is_some parts.failed };
+
+    ghost failed_at = { λ parts. unwrap_or parts.failed 0 };
 
     fn append(&mut self, class: usize, bytes: &[u8]) -> Result<(), RunError> {
         if bytes.is_empty() {
@@ -117,9 +119,7 @@ fn names_part(prefix: &str, classes: u32, name: &str) -> bool
 pub fn check_names(prefix: &str, classes: u32, names: &[String]) -> Result<(), Trouble>
     ensures apart { OnOk result (All (λ name. ¬ NamesPart prefix.now classes name)
         (map string_bytes names.now)) }
-    ensures named { OnErr result (¬ All (λ name. ¬ NamesPart prefix.now classes name)
-        (map string_bytes names.now)) }
-    ensures trouble { IsPartNamed result }
+    ensures named { IfErr result (IsPartNamed prefix.now classes (map string_bytes names.now)) }
 {
     let mut place = 0;
     'names: for name in names {

@@ -15,6 +15,9 @@ pub trait Parts {
     /// Whether bytes could not be appended.
     ghost has_failed: { Self → Bool };
 
+    /// The class of the part that they could not be appended to.
+    ghost failed_at: { Self → ℕ };
+
     /// Appends bytes to the part of a class. `Write` exactly if a part cannot be written, and `OutOfMemory` only after an
     /// allocation failed: then a prefix of the bytes was appended, perhaps none or all.
     fn append(&mut self, class: usize, bytes: &[u8]) -> Result<(), RunError>
@@ -25,10 +28,12 @@ pub trait Parts {
         ensures others { (other : ℕ) → other ≢ class →
             Keeps (contents self.old other) (contents self.new other) }
         ensures failed { IsTrue (has_failed self.new) ↔ (result ≡ Err RunError.Write) }
+        ensures class { result ≡ Err RunError.Write → failed_at self.new ≡ class }
         ensures error { IfErr result (λ e. (e ≡ RunError.Write) ⊎ (e ≡ RunError.OutOfMemory)) };
 
     /// The class of the part that could not be written; 0 if there is none.
-    fn failed_class(&self) -> usize;
+    fn failed_class(&self) -> usize
+        ensures { result ≡ failed_at self.now };
 }
 
 /// Appends to the part of each class what stands at its place. After an error a prefix of that was appended to each part.

@@ -7,13 +7,19 @@ use Rattle.simplex_splitting.proofs.LineLemmas.{name_there}
 use Rattle.simplex_splitting.proofs.files.check_names.Goals as goal
 
 pub returns-then-names_part-clause-named : goal.returns-then-names_part-clause-named
-returns-then-names_part-clause-named c = λ all.
+returns-then-names_part-clause-named c =
+    let same = c.names.invariant.0 in
     let within : c.names.name-index < length c.args.names.now = search rules in
     let len = length-map c.args.names.now string_bytes in
     let there = name_there c.args.names.now c.names.name-index c.name-item.result within c.name-item.is in
     let named : NamesPart c.args.prefix.now c.args.classes (string_bytes c.name-item.result) = search rules in
-    all c.names.name-index [] (omega (arith, within, len))
-    (subst (NamesPart c.args.prefix.now c.args.classes) (sym there) named)
+    rw same (
+    record {
+      within = omega (arith, within, len);
+      named = subst (NamesPart c.args.prefix.now c.args.classes) (sym there) named;
+      before = c.names.invariant.1;
+    }
+    )
 
 pub returns-clause-apart : goal.returns-clause-apart
 returns-clause-apart c = λ k d within.

@@ -2,7 +2,7 @@ use Rattle.std.proofs.Common.{rules, [], inl, map, string_bytes, subst, sym}
 use Rattle.std.specs.Io.KnownBytes.{Appends}
 use Rattle.std.proofs.KnownBytes.{Appends-nil, Keeps-refl}
 use Rattle.std.proofs.lemmas.List.Elements.{All-nil}
-use Rattle.simplex_splitting.proofs.EndingLemmas.{files_fail, named_ends, no_parts, some_parts}
+use Rattle.simplex_splitting.proofs.EndingLemmas.{files_fail, named_ends, no_parts}
 use Rattle.simplex_splitting.proofs.LineLemmas.{no_lines}
 use Rattle.simplex_splitting.proofs.PartLemmas.{whole_begins}
 use Rattle.simplex_splitting.proofs.start.cut_options.Goals as goal
@@ -10,10 +10,7 @@ use Rattle.simplex_splitting.proofs.start.cut_options.Goals as goal
 pub returns-in_err-check_names-clause-ends : goal.returns-in_err-check_names-clause-ends
 returns-in_err-check_names-clause-ends g c =
     named_ends _ c.args.options.now (map string_bytes c.args.names.now) _ c.in_err-check_names.field-0.0 c.from_residual.result
-    (search rules) c.in_err-check_names.ensures.trouble
-    (some_parts c.args.options.now (map string_bytes c.args.names.now) _ c.get-classes.ensures.value
-    c.in_err-check_names.ensures.named)
-    (Keeps-refl _)
+    _ (search rules) c.get-classes.ensures.value c.in_err-check_names.ensures.named (Keeps-refl _)
 
 pub returns-in_err-create_parts-clause-ends : goal.returns-in_err-create_parts-clause-ends
 returns-in_err-create_parts-clause-ends g c =
