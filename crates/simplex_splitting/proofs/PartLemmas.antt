@@ -30,7 +30,7 @@ kept_twice (Some x) (Some y) None p q = absurd q
 kept_twice (Some x) (Some y) (Some z) p q = q ∙ p
 
 -- nothing was appended to bytes that were kept
-kept_nothing : (a b : Option (List ℕ)) → Keeps a b → Appends a b []
+pub kept_nothing : (a b : Option (List ℕ)) → Keeps a b → Appends a b []
 kept_nothing None b p = tt
 kept_nothing (Some x) None p = absurd p
 kept_nothing (Some x) (Some y) p = p ∙ sym (append-nil x)

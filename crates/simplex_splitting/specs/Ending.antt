@@ -1,5 +1,5 @@
 -- How `audit_split` ends: what holds then of its arguments and of its output.
-use Rattle.std.specs.Prelude.{◌≡◌, ◌⊎◌, ◌∷◌, ◌++◌, ◌||◌, ℕ, Bool, true, false, All, List, [], Option, Some, None, Result, Ok, Err, codes, decimal, is_some, length}
+use Rattle.std.specs.Prelude.{⊤, ◌≡◌, ◌<◌, ◌⊎◌, ◌∷◌, ◌++◌, ◌||◌, ℕ, Bool, IsTrue, true, false, All, List, [], Option, Some, None, Result, Ok, Err, codes, decimal, is_some, length}
 use Rattle.std.specs.Int.NonZero.{non_zero_u32_get}
 use Rattle.std.specs.Io.KnownBytes.{Appends, Keeps}
 use Rattle.simplex_audit.specs.Outcome.{WriterUse}
@@ -54,6 +54,21 @@ abbrev pub any_fault : List Totals → Bool
 any_fault [] = false
 any_fault (totals ∷ all) = is_some totals.fault || any_fault all
 
+-- ---- what fails
+
+-- the trouble is of the file at this place, of the part of this class, or of an allocation
+abbrev pub IsOfFile : ℕ → ℕ → Trouble → Type 0
+IsOfFile place class (troubles.Unread at) = at ≡ place
+IsOfFile place class (troubles.Unwritten at) = at ≡ class
+IsOfFile place class troubles.OutOfMemory = ⊤
+IsOfFile place class _ = ⊥
+
+-- the trouble is of the part of one of so many classes, or of an allocation
+abbrev pub IsOfParts : ℕ → Trouble → Type 0
+IsOfParts classes (troubles.Unwritten class) = class < classes
+IsOfParts classes troubles.OutOfMemory = ⊤
+IsOfParts classes _ = ⊥
+
 -- ---- what was read
 
 -- what it means that so much was read of an input, under a bound: for each size of signatures
@@ -75,22 +90,36 @@ abbrev pub AreRead : (List ℕ → Totals → Type 0) → List Totals → Type 0
 AreRead Reads all = All (λ totals. (input : List ℕ) × Reads input totals) all
 
 module _ (Reads : List ℕ → Totals → Type 0) (names : List (List ℕ)) (writer : WriterUse) where
-  -- All files were read, and exactly their lines were written.
-  pub record AreCut (faulted : Bool) : Type 0 where
+  -- So many of the first files were read, and exactly their lines were written and flushed.
+  pub record AreCutBefore (count : ℕ) : Type 0 where
     pub all : List Totals
-    pub count : length all ≡ length names
+    pub count_is : length all ≡ count
     pub read : AreRead Reads all
     pub said : Appends writer.before writer.after (lines names all)
-    pub faults : faulted ≡ any_fault all
+    pub flushed : 0 < count → IsTrue writer.flushed
+
+  -- All were.
+  pub record AreCut (faulted : Bool) : Type 0 where
+    pub files : AreCutBefore (length names)
+    pub faults : faulted ≡ any_fault files.all
 
   -- Some of the first were read, and a prefix of their lines was written.
   abbrev pub AreBegun : Type 0
   AreBegun = (all : List Totals) × AreRead Reads all × AppendsBeginning writer.before writer.after (lines names all)
 
+  -- What holds after a trouble, which is never of the arguments. Only a failed output can end within a line.
+  abbrev pub AreStopped : Trouble → Type 0
+  AreStopped troubles.Usage = ⊥
+  AreStopped (troubles.PartNamed place) = ⊥
+  AreStopped (troubles.Unread place) = (place < length names) × AreCutBefore place
+  AreStopped (troubles.Unwritten class) = (count : ℕ) × AreCutBefore count
+  AreStopped troubles.OutOfMemory = (count : ℕ) × AreCutBefore count
+  AreStopped troubles.Unsaid = AreBegun
+
   -- how the cut of files ends
   abbrev pub FilesEnd : SplitEnding → Type 0
   FilesEnd (Ok faulted) = AreCut faulted
-  FilesEnd (Err trouble) = AreBegun
+  FilesEnd (Err trouble) = AreStopped trouble
 
 -- none of the files has the name of a part
 abbrev pub AreNoParts : Options → List (List ℕ) → Type 0

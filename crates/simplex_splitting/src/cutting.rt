@@ -1,14 +1,14 @@
 //! Cuts files into the files of parts, and writes a line of each.
 
-ghost use Rattle.std.specs.Prelude.{◌≡◌, ◌≢◌, ◌↔◌, ◌||◌, List, ℕ, false, Err, IfOk, IsTrue, OnOk, is_some, map, string_bytes};
+ghost use Rattle.std.specs.Prelude.{◌≡◌, ◌⊎◌, ◌↔◌, ◌||◌, List, ℕ, false, Err, IfErr, IfOk, IsTrue, OnOk, is_some, map, string_bytes};
 ghost use Rattle.std.specs.Int.NonZero.{non_zero_u32_get};
 ghost use Rattle.std.specs.Io.KnownBytes.{Appends};
 ghost use Rattle.simplex_audit.specs.Outcome.{writer_use};
 ghost use Rattle.simplex_base.specs.Format.{format_under};
-ghost use Rattle.simplex_splitting.specs.Ending.{FilesEnd, line_of};
+ghost use Rattle.simplex_splitting.specs.Ending.{FilesEnd, IsOfFile, line_of};
 ghost use Rattle.simplex_splitting.specs.Splitting.{IsReadAs};
 ghost use Rattle.simplex_stream.specs.Text.{AppendsBeginning};
-ghost use Rattle.simplex_stream.specs.Watched.{has_failed, inner_of};
+ghost use Rattle.simplex_stream.specs.Watched.{has_failed, inner_of, is_flushed};
 
 use crate::complaints::Trouble;
 use crate::options::Options;
@@ -63,7 +63,8 @@ fn cut_file<M: Show + Roundable + Writable, F: Files<File = File>, P: Parts>(
     ensures read { IfOk result (λ totals. (input : List ℕ) × IsReadAs
         (format_under ⟦<M as Readable>⟧ (non_zero_u32_get options.now.division.bound)) input totals) }
     ensures well { OnOk result (P.has_failed parts.new ≡ false) }
-    ensures error { result ≢ Err Trouble.Unsaid }
+    ensures unwritten { IsTrue (P.has_failed parts.new) ↔ (result ≡ Err (Trouble.Unwritten (P.failed_at parts.new))) }
+    ensures error { IfErr result (IsOfFile place (P.failed_at parts.new)) }
 {
     let cut = Cut::Mixed {
         seed: options.seed,
@@ -94,7 +95,10 @@ fn say_line<W: Write>(
         (W.contents (inner_of output.new)) (line_of name.now totals.now)) }
     ensures begun { AppendsBeginning (W.contents (inner_of output.old))
         (W.contents (inner_of output.new)) (line_of name.now totals.now) }
+    ensures flushed { OnOk result (IsTrue (is_flushed output.new)) }
     ensures failed { IsTrue (has_failed output.new) ↔ (result ≡ Err Trouble.Unsaid) }
+    ensures error { IfErr result (λ trouble. (trouble ≡ Trouble.Unsaid)
+        ⊎ ((trouble ≡ Trouble.OutOfMemory) × (output.new ≡ output.old))) }
 {
     let line = line(alloc, name, totals)?;
     match write_text(output, line.as_bytes()) {
@@ -110,7 +114,8 @@ fn is_faulted(before: bool, totals: &Totals) -> bool
     before || totals.fault.is_some()
 }
 
-/// Cuts files, one after the other, and writes a line of each as soon as it was read. Returns whether one has a fault.
+/// Cuts files, one after the other, and writes a line of each as soon as it was read. Returns whether one has a fault. An error
+/// other than `Unsaid` leaves exactly the lines of the files before the one that failed, and never is of the arguments.
 pub fn cut_files<M: Show + Roundable + Writable, F: Files<File = File>, P: Parts, W: Write>(
     alloc: Global,
     files: &F,
@@ -124,6 +129,7 @@ pub fn cut_files<M: Show + Roundable + Writable, F: Files<File = File>, P: Parts
     ensures ends { FilesEnd
         (IsReadAs (format_under ⟦<M as Readable>⟧ (non_zero_u32_get options.now.division.bound)))
         (map string_bytes names.now) (writer_use W.contents output.old output.new) result }
+    ensures unwritten { IsTrue (P.has_failed parts.new) ↔ (result ≡ Err (Trouble.Unwritten (P.failed_at parts.new))) }
     ensures failed { IsTrue (has_failed output.new) ↔ (result ≡ Err Trouble.Unsaid) }
 {
     let mut faulted = false;

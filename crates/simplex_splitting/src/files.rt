@@ -1,6 +1,7 @@
 //! The files of the parts: those with a prefix, a dot and the number of a class as their names.
 
-ghost use Rattle.std.specs.Prelude.{◌≡◌, ◌≢◌, ◌↔◌, All, Err, IfErr, IsTrue, OnOk, map, string_bytes};
+ghost use Rattle.std.specs.Prelude.{◌≡◌, ◌↔◌, All, Err, IfErr, IsTrue, OnOk, map, string_bytes};
+ghost use Rattle.simplex_splitting.specs.Ending.{IsOfParts};
 ghost use Rattle.simplex_splitting.specs.Files.{IsPartNamed, NamesPart};
 
 use crate::complaints::Trouble;
@@ -88,7 +89,7 @@ pub fn create_parts<F: Files<File = File>>(
     prefix: &str,
     classes: u32,
 ) -> Result<(), Trouble>
-    ensures { result ≢ Err Trouble.Unsaid }
+    ensures { IfErr result (IsOfParts classes) }
 {
     'classes: for class in 0..classes {
         let name = part_name(alloc, prefix, class as usize)?;

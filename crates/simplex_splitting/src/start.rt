@@ -47,6 +47,7 @@ fn cut_signed<F: Files<File = File>, P: Parts, W: Write>(
     ensures ends { FilesEnd
         (reads_of ⟦<Inputs as Reading>⟧.readings options.now.signature (non_zero_u32_get options.now.division.bound))
         (map string_bytes names.now) (writer_use W.contents output.old output.new) result }
+    ensures unwritten { IsTrue (P.has_failed parts.new) ↔ (result ≡ Err (Trouble.Unwritten (P.failed_at parts.new))) }
     ensures failed { IsTrue (has_failed output.new) ↔ (result ≡ Err Trouble.Unsaid) }
 {
     match options.signature {

@@ -1,11 +1,10 @@
-use Rattle.std.proofs.Common.{◌≡◌, ℕ, List, length, false, map, string_bytes}
+use Rattle.std.proofs.Common.{◌≡◌, ℕ, false, map, string_bytes}
 use Rattle.std.specs.Int.NonZero.{non_zero_u32_get}
-use Rattle.std.specs.Io.KnownBytes.{Appends}
+use Rattle.simplex_audit.specs.Outcome.{writer_use}
 use Rattle.simplex_base.specs.Format.{Format}
-use Rattle.simplex_splitting.specs.Ending.{AreRead, any_fault, lines}
+use Rattle.simplex_splitting.specs.Ending.{AreCutBefore, any_fault}
 use Rattle.simplex_splitting.specs.Splitting.{IsReadAs}
-use Rattle.simplex_splitting.specs.declared.splitting.Totals.{Totals}
-use Rattle.simplex_stream.specs.Watched.{has_failed, inner_of}
+use Rattle.simplex_stream.specs.Watched.{has_failed}
 use Rattle.simplex_splitting.proofs.cutting.cut_files.Given as goal
 
 -- the format of messages under a bound
@@ -18,8 +17,5 @@ format g bound = record {
 
 abbrev pub invariant-files : goal.invariant-files
 invariant-files g l = (has_failed l.output ≡ false) × (l.place ≡ l.name-index) × (g.P.Parts.has_failed l.parts ≡ false)
-    × ((all : List Totals) × (length all ≡ l.place)
-    × AreRead (IsReadAs (format g (non_zero_u32_get l.options.division.bound))) all
-    × Appends (g.W.Write.contents (inner_of l.fn.output)) (g.W.Write.contents (inner_of l.output))
-    (lines (map string_bytes l.names) all)
-    × (l.faulted ≡ any_fault all))
+    × ((cut : AreCutBefore (IsReadAs (format g (non_zero_u32_get l.options.division.bound))) (map string_bytes l.names)
+    (writer_use g.W.Write.contents l.fn.output l.output) l.place) × (l.faulted ≡ any_fault cut.all))
