@@ -5,8 +5,9 @@ ghost use Rattle.std.specs.Int.NonZero.{non_zero_u32_get};
 ghost use Rattle.std.specs.Io.KnownBytes.{Appends};
 ghost use Rattle.simplex_audit.specs.Outcome.{writer_use};
 ghost use Rattle.simplex_base.specs.Format.{format_under};
+ghost use Rattle.simplex_shards.specs.Cut.{mixed_class};
 ghost use Rattle.simplex_splitting.specs.Ending.{FilesEnd, IsOfFile, line_of};
-ghost use Rattle.simplex_splitting.specs.Splitting.{IsReadAs};
+ghost use Rattle.simplex_splitting.specs.Splitting.{IsCutInto, IsReadAs};
 ghost use Rattle.simplex_stream.specs.Text.{AppendsBeginning};
 ghost use Rattle.simplex_stream.specs.Watched.{has_failed, inner_of, is_flushed};
 
@@ -60,8 +61,11 @@ fn cut_file<M: Show + Roundable + Writable, F: Files<File = File>, P: Parts>(
     parts: &mut P,
 ) -> Result<Totals, Trouble>
     requires { P.has_failed parts.old ≡ false }
-    ensures read { IfOk result (λ totals. (input : List ℕ) × IsReadAs
-        (format_under ⟦<M as Readable>⟧ (non_zero_u32_get options.now.division.bound)) input totals) }
+    // Each part got exactly its messages of the file.
+    ensures cut { IfOk result (λ totals. (input : List ℕ) × IsCutInto
+        (format_under ⟦<M as Readable>⟧ (non_zero_u32_get options.now.division.bound)) M.round_of
+        (mixed_class options.now.seed (non_zero_u32_get options.now.division.classes)) input totals
+        (P.contents parts.old) (P.contents parts.new)) }
     ensures well { OnOk result (P.has_failed parts.new ≡ false) }
     ensures unwritten { IsTrue (P.has_failed parts.new) ↔ (result ≡ Err (Trouble.Unwritten (P.failed_at parts.new))) }
     ensures error { IfErr result (IsOfFile place (P.failed_at parts.new)) }

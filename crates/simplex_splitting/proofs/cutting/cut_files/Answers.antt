@@ -24,6 +24,7 @@ pub returns-in_err-say_line-clause-ends : goal.returns-in_err-say_line-clause-en
 returns-in_err-say_line-clause-ends g c =
     let (cut, faults) = c.files.invariant.3 in
     let t = c.in_ok-totals.totals in
+    let (input, into) = c.in_ok-totals.ensures.cut in
     let within : c.files.name-index < length c.args.names.now = search rules in
     let len = length-map c.args.names.now string_bytes in
     let place = c.files.invariant.1 in
@@ -36,7 +37,7 @@ returns-in_err-say_line-clause-ends g c =
     c.from_residual-in_err-say_line.result (search rules) c.in_err-say_line.ensures.error cut (
       cut.all ++ t ∷ [],
       read_more (IsReadAs (format g (non_zero_u32_get c.args.options.now.division.bound))) cut.all t cut.read
-          c.in_ok-totals.ensures.read,
+          (input, into.read),
       said_begun _ _ _ (map string_bytes c.args.names.now) cut.all _ t (omega (arith, within, len, place, count)) name cut.said
           c.in_err-say_line.ensures.begun,
     )
@@ -74,6 +75,7 @@ pub files-preserved : goal.files-preserved
 files-preserved g c =
     let (cut, faults) = c.files.invariant.3 in
     let t = c.in_ok-totals.totals in
+    let (input, into) = c.in_ok-totals.ensures.cut in
     let within : c.files.name-index < length c.args.names.now = search rules in
     let len = length-map c.args.names.now string_bytes in
     let place = c.files.invariant.1 in
@@ -90,7 +92,7 @@ files-preserved g c =
           count_is = one_longer cut.all t ∙ ap (λ (n : ℕ). n + 1) count;
           read =
               read_more (IsReadAs (format g (non_zero_u32_get c.args.options.now.division.bound))) cut.all t cut.read
-              c.in_ok-totals.ensures.read;
+              (input, into.read);
           said =
               said_more _ _ _ (map string_bytes c.args.names.now) cut.all _ t (omega (arith, within, len, place, count)) name
               cut.said c.in_ok-say_line.ensures.written;
