@@ -1,5 +1,5 @@
 -- What a call does to an auditor, and puts into a caller's buffer.
-use Rattle.std.specs.Prelude.{◌≡◌, ◌≢◌, ◌⊎◌, ℕ, true, false, List, [], ◌++◌, length}
+use Rattle.std.specs.Prelude.{◌≡◌, ◌≢◌, ◌⊎◌, ◌≤◌, ◌+◌, ◌^◌, ℕ, true, false, List, [], ◌++◌, length}
 use Rattle.std.specs.Int.{from_bool}
 use Rattle.std.specs.Ordering.{ord_max}
 use Rattle.simplex_base.specs.Positions.{Round}
@@ -78,11 +78,13 @@ module _ {S D C P G : Type 0} (floor : Round) (basis : Schedule S → Basis S D 
     pub follows : Follows floor basis committees stream new
     pub waits : WaitSame old.news new.news
 
-  -- A piece is fed, with 0; else nothing is fed and nothing lost, with 1 because the stream has ended.
+  -- A piece is fed, with 0; else nothing is fed and nothing lost. With 1 the stream has ended, with 5 it would have 2^64 bytes
+  -- or more.
   pub record Feeds (piece : List ℕ) (status : ℕ) (old new : LiveAuditor S D P G) : Type 0 where
     pub taken : status ≡ 0 → TakesPiece floor basis committees stream piece old new
     pub kept : status ≢ 0 → LosesNothing floor basis committees stream old new
     pub over : status ≡ 1 → HasEnded (basis committees) stream
+    pub long : status ≡ 5 → 2 ^ 64 ≤ length stream + length piece
 
   -- all below a floor is given up, and a lower floor than the present one changes nothing
   pub record Prunes (lowest : Round) (old new : LiveAuditor S D P G) : Type 0 where

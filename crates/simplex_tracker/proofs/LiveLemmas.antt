@@ -1,5 +1,5 @@
 -- What an auditor holds of its stream and hands over, from piece to piece.
-use Rattle.std.proofs.Common.{◌≡◌, inl, inr, ℕ, ◌+◌, ◌≤◌, Bool, false, IsTrue, Option, Some, None, List, [], ◌∷◌, ◌++◌, length, map, drop, refl, sym, ap, subst, ◌∙◌, arith, append-nil, length-append}
+use Rattle.std.proofs.Common.{◌≡◌, inl, inr, ℕ, ◌+◌, ◌≤◌, ◌^◌, Bool, false, IsTrue, Option, Some, None, List, [], ◌∷◌, ◌++◌, length, map, drop, refl, sym, ap, subst, ◌∙◌, arith, append-nil, length-append}
 use Rattle.std.proofs.Math.Seq.{drop-append_seam}
 use Rattle.std.proofs.lemmas.Bool.{false≢true}
 use Rattle.std.proofs.lemmas.List.{map-append}
@@ -34,7 +34,7 @@ use Rattle.simplex_stream.specs.declared.fault.Fault.{Fault}
 use Rattle.simplex_audit.specs.Basis.{Basis, basis_from}
 use Rattle.simplex_audit.specs.Compaction.{IsCompacted}
 use Rattle.simplex_tracker.specs.Live.{Advances, AreNews, ArisesBetween, CanStandFor, Follows, HasEnded, IsShort, IsTracked, LosesNothing, TakesPiece, TracksAll, WaitSame, evidence_waiting, held_by, splits_waiting}
-use Rattle.simplex_tracker.specs.Tracking.{IsQuiet, Tracks, tracking_over}
+use Rattle.simplex_tracker.specs.Tracking.{IsQuiet, Tracks, fed_of, tracking_over}
 use Rattle.simplex_tracker.specs.declared.live.LiveAuditor.{LiveAuditor}
 use Rattle.simplex_tracker.specs.declared.tracker.Tracker.{Tracker}
 
@@ -439,6 +439,15 @@ module _ {S D C P G : Type 0} (basis : Schedule S → Basis S D C P G) where
         are_messages = known.tracks.decoded.are_messages;
         over = known.tracks.decoded.over over;
       }
+
+  -- where the stream would have 2^64 bytes
+  pub is_long : (old : LiveAuditor S D P G) (tracker : Tracker S D P G) (size : ℕ) → old.tracker ≡ Some tracker →
+      2 ^ 64 ≤ fed_of tracker + size → (floor : Round) (committees : Schedule S) (stream : List ℕ) →
+      Follows floor basis committees stream old → 2 ^ 64 ≤ length stream + size
+  is_long old tracker size some long floor committees stream h =
+      let known = all_tracked floor committees (held_by old) stream old.tracker tracker some h.tracked in
+      let fed : fed_of tracker ≡ length stream = known.tracks.decoded.fed_is in
+      omega (arith, fed, long)
 
   -- what is said of a tracker from what it tracks is said of the auditor that has it
   pub says : (live : LiveAuditor S D P G) (tracker : Tracker S D P G) → live.tracker ≡ Some tracker →

@@ -106,6 +106,9 @@ impl<S: Listing<D> + Drop, D: Digest> LiveAuditor<S, D> {
         ensures over { result ≡ Fed.Over → (floor : positions.Round) (committees : Schedule S)
             (stream : List ℕ) → Follows floor ⟦<S as Audited<D>>⟧.basis committees stream self.old →
             HasEnded (⟦<S as Audited<D>>⟧.basis committees) stream }
+        ensures long { result ≡ Fed.Long → (floor : positions.Round) (committees : Schedule S)
+            (stream : List ℕ) → Follows floor ⟦<S as Audited<D>>⟧.basis committees stream self.old →
+            2 ^ 64 ≤ length stream + length piece.now }
     {
         if self.recall(alloc).is_err() {
             return Fed::OutOfMemory;
@@ -131,6 +134,9 @@ impl<S: Listing<D> + Drop, D: Digest> LiveAuditor<S, D> {
         ensures over { result ≡ Fed.Over → (floor : positions.Round) (committees : Schedule S)
             (stream : List ℕ) → Follows floor ⟦<S as Audited<D>>⟧.basis committees stream self.old →
             HasEnded (⟦<S as Audited<D>>⟧.basis committees) stream }
+        ensures long { result ≡ Fed.Long → (floor : positions.Round) (committees : Schedule S)
+            (stream : List ℕ) → Follows floor ⟦<S as Audited<D>>⟧.basis committees stream self.old →
+            2 ^ 64 ≤ length stream + length piece.now }
     {
         same_state_suffices::<S, D>();
         let Some(tracker) = self.tracker.take() else {
@@ -349,6 +355,7 @@ fn nothing<S: SchemeTypes, D: Digest>(alloc: Global) -> News<S, D>
 /// Why a piece of this many bytes is dropped, if it is.
 fn drops<S: Listing<D>, D: Digest>(tracker: &Tracker<S, D>, size: usize) -> Option<Fed>
     ensures over { result ≡ Some Fed.Over → IsTrue (tracking_over tracker.now) }
+    ensures long { result ≡ Some Fed.Long → 2 ^ 64 ≤ fed_of tracker.now + size }
     ensures dropped { result ≢ Some Fed.Taken }
     ensures fits { result ≡ None → fed_of tracker.now + size < 2 ^ 64 }
 {

@@ -23,3 +23,7 @@ returns-in_default-clause-kept g c = λ not floor committees stream h.
 pub returns-in_default-clause-over : goal.returns-in_default-clause-over
 returns-in_default-clause-over g c = λ is floor committees stream h.
     c.feed_tracked.ensures.over is floor committees stream (c.recall.ensures.follows floor committees stream h)
+
+pub returns-in_default-clause-long : goal.returns-in_default-clause-long
+returns-in_default-clause-long g c = λ is floor committees stream h.
+    c.feed_tracked.ensures.long is floor committees stream (c.recall.ensures.follows floor committees stream h)

@@ -1,6 +1,6 @@
-use Rattle.std.proofs.Common.{◌∙◌, Some, ap, sym, take}
+use Rattle.std.proofs.Common.{◌∙◌, Some, ap, length, sym, take}
 use Rattle.std.proofs.lemmas.List.{take_at}
-use Rattle.simplex_tracker.proofs.LiveLemmas.{falls_back, has_ended, stays_held, stays_with, takes_piece}
+use Rattle.simplex_tracker.proofs.LiveLemmas.{falls_back, has_ended, is_long, stays_held, stays_with, takes_piece}
 use Rattle.simplex_tracker.proofs.live.LiveAuditor.feed_tracked.Goals as goal
 
 -- nothing is known of the stream
@@ -17,6 +17,11 @@ pub returns-in-Some-drops-clause-over : goal.returns-in-Some-drops-clause-over
 returns-in-Some-drops-clause-over g c = λ is.
     has_ended _ c.args.self.now c.in-Some.tracker (sym c.in-Some.ensures.value)
     (c.drops.ensures.over (c.in-Some-drops.is ∙ ap Some is))
+
+pub returns-in-Some-drops-clause-long : goal.returns-in-Some-drops-clause-long
+returns-in-Some-drops-clause-long g c = λ is.
+    is_long _ c.args.self.now c.in-Some.tracker (length c.args.piece.now) (sym c.in-Some.ensures.value)
+    (c.drops.ensures.long (c.in-Some-drops.is ∙ ap Some is))
 
 -- what is held did not grow
 pub returns-in_default-extend_from_slice-clause-kept : goal.returns-in_default-extend_from_slice-clause-kept
