@@ -90,6 +90,7 @@ pub extern "C" fn simplex_auditor_feed(alloc: Global, auditor: &mut Handle, byte
         InHandle ⟦<AnyAuditor as Judged>⟧.bases (Feeding floor stream bytes.now result) roster
         auditor.old.held auditor.new.held }
     ensures none { result ≡ 2 → (auditor.old.held ≡ None) × (auditor.new.held ≡ None) }
+    ensures empty { auditor.old.held ≡ None → (result ≡ 2) × (auditor.new.held ≡ None) }
     ensures status { (result ≡ 0) ⊎ (result ≡ 1) ⊎ (result ≡ 2) ⊎ (result ≡ 3) ⊎ (result ≡ 5) }
 {
     calls::feed(alloc, auditor, bytes)
@@ -116,7 +117,7 @@ pub extern "C" fn simplex_auditor_unverified(
         InHandle ⟦<AnyAuditor as Judged>⟧.bases (Deferring floor stream
         ⟦<AnyAuditor as Judged>⟧.encodings bytes.now records.old records.new needed.new whole.new
         result roster) roster auditor.old.held auditor.new.held }
-    ensures none { auditor.old.held ≡ None → (result ≡ 2) × (auditor.new.held ≡ None) }
+    ensures empty { auditor.old.held ≡ None → (result ≡ 2) × (auditor.new.held ≡ None) }
     ensures untouched { (result ≡ 2) ⊎ (result ≡ 3) → (records.new ≡ records.old) ×
         (needed.new ≡ needed.old) × (whole.new ≡ whole.old) }
     ensures status { (result ≡ 0) ⊎ (result ≡ 1) ⊎ (result ≡ 2) ⊎ (result ≡ 3) ⊎ (result ≡ 4) }
@@ -140,8 +141,10 @@ pub extern "C" fn simplex_auditor_report(
         (Reporting floor stream text.old text.new summary.new result) roster
         auditor.old.held auditor.new.held }
     ensures none { result ≡ 2 → (auditor.old.held ≡ None) × (auditor.new.held ≡ None) }
+    ensures empty { auditor.old.held ≡ None → (result ≡ 2) × (auditor.new.held ≡ None) }
     ensures untouched { (result ≡ 2) ⊎ (result ≡ 3) →
         (text.new ≡ text.old) × (summary.new ≡ summary.old) }
+    ensures status { (result ≡ 0) ⊎ (result ≡ 1) ⊎ (result ≡ 2) ⊎ (result ≡ 3) ⊎ (result ≡ 4) }
 {
     calls::report(alloc, auditor, text, summary)
 }
@@ -163,6 +166,7 @@ pub extern "C" fn simplex_auditor_news(
         (Telling floor stream text.old text.new length.new result) roster
         auditor.old.held auditor.new.held }
     ensures none { result ≡ 2 → (auditor.old.held ≡ None) × (auditor.new.held ≡ None) }
+    ensures empty { auditor.old.held ≡ None → (result ≡ 2) × (auditor.new.held ≡ None) }
     ensures untouched { (result ≡ 2) ⊎ (result ≡ 3) →
         (text.new ≡ text.old) × (length.new ≡ length.old) }
     ensures status { (result ≡ 0) ⊎ (result ≡ 2) ⊎ (result ≡ 3) ⊎ (result ≡ 4) }
@@ -187,6 +191,7 @@ pub extern "C" fn simplex_auditor_prune(
         (Pruning floor stream (record { epoch = epoch; view = view })) roster
         auditor.old.held auditor.new.held }
     ensures none { result ≡ 2 → (auditor.old.held ≡ None) × (auditor.new.held ≡ None) }
+    ensures empty { auditor.old.held ≡ None → (result ≡ 2) × (auditor.new.held ≡ None) }
     ensures status { (result ≡ 0) ⊎ (result ≡ 2) }
 {
     calls::prune(alloc, auditor, epoch, view)
@@ -207,6 +212,7 @@ pub extern "C" fn simplex_auditor_votes(
         InHandle ⟦<AnyAuditor as Judged>⟧.bases (Counting floor stream votes.new result) roster
         auditor.old.held auditor.new.held }
     ensures none { result ≡ 2 → (auditor.old.held ≡ None) × (auditor.new.held ≡ None) }
+    ensures empty { auditor.old.held ≡ None → (result ≡ 2) × (auditor.new.held ≡ None) }
     ensures untouched { (result ≡ 2) ⊎ (result ≡ 3) → votes.new ≡ votes.old }
     ensures status { (result ≡ 0) ⊎ (result ≡ 2) ⊎ (result ≡ 3) }
 {
@@ -230,6 +236,7 @@ pub extern "C" fn simplex_auditor_held(
         (Saving floor stream bytes.old bytes.new length.new result) roster
         auditor.old.held auditor.new.held }
     ensures none { result ≡ 2 → (auditor.old.held ≡ None) × (auditor.new.held ≡ None) }
+    ensures empty { auditor.old.held ≡ None → (result ≡ 2) × (auditor.new.held ≡ None) }
     ensures untouched { (result ≡ 2) ⊎ (result ≡ 3) →
         (bytes.new ≡ bytes.old) × (length.new ≡ length.old) }
     ensures status { (result ≡ 0) ⊎ (result ≡ 2) ⊎ (result ≡ 3) ⊎ (result ≡ 4) }

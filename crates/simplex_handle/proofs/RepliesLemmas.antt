@@ -8,12 +8,13 @@ use Rattle.simplex_schemes.specs.Plain.{PlainScheme}
 use Rattle.simplex_schemes.specs.Vouched.{VouchedScheme}
 use Rattle.simplex_evidence.specs.declared.types.activity.Activity.{Activity}
 use Rattle.simplex_alarm.specs.declared.alarm.News.{News}
+use Rattle.simplex_stream.specs.declared.fault.Fault.{Fault}
 use Rattle.simplex_audit.specs.Basis.{Basis}
 use Rattle.simplex_places.specs.Pieces.{IsPiece}
 use Rattle.simplex_places.specs.declared.pieces.Piece.{Piece}
 use Rattle.simplex_places.specs.declared.places.Placed.{Placed}
 use Rattle.simplex_places.specs.declared.repeats.Unverified.{Unverified}
-use Rattle.simplex_border.specs.Answer.{IsPut}
+use Rattle.simplex_border.specs.Answer.{IsPut, ended_of}
 use Rattle.simplex_tracker.specs.Live.{Follows, WaitSame}
 use Rattle.simplex_tracker.specs.Tracking.{EndsWhole}
 use Rattle.simplex_tracker.specs.declared.live.LiveAuditor.{LiveAuditor}
@@ -68,6 +69,13 @@ not_two status (inl is) two = omega (arith, is, two)
 not_two status (inr (inl is)) two = omega (arith, is, two)
 not_two status (inr (inr (inl is))) two = omega (arith, is, two)
 not_two status (inr (inr (inr is))) two = omega (arith, is, two)
+
+-- what the status is of a text that is put
+pub put_status : (text before after : List ℕ) (fault : Option Fault) (status : ℕ) →
+    IsPut text before after status (ended_of fault) → (status ≡ 0) ⊎ (status ≡ 1) ⊎ (status ≡ 3) ⊎ (status ≡ 4)
+put_status text before after None status (inl (fits, is, there)) = inl is
+put_status text before after (Some fault) status (inl (fits, is, there)) = inr (inl is)
+put_status text before after fault status (inr (short, is, kept)) = inr (inr (inr is))
 
 -- ---- an auditor of one of the kinds
 

@@ -184,7 +184,7 @@ impl AnyAuditor {
             Between ⟦<AnyAuditor as Judged>⟧.bases (Reporting floor stream buffer.old buffer.new summary.new result)
             roster self.old self.new }
         ensures memory { result ≡ 3 → (buffer.new ≡ buffer.old) × (summary.new ≡ summary.old) }
-        ensures status { result ≢ 2 }
+        ensures status { (result ≡ 0) ⊎ (result ≡ 1) ⊎ (result ≡ 3) ⊎ (result ≡ 4) }
     {
         match self {
             AnyAuditor::Vouched48(live) => replies::report(alloc, live, buffer, summary),

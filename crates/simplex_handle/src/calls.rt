@@ -99,6 +99,7 @@ pub fn feed(alloc: Global, handle: &mut Handle, bytes: &[u8]) -> u32
         InHandle ⟦<AnyAuditor as Judged>⟧.bases (Feeding floor stream bytes.now result) roster
         handle.old.held handle.new.held }
     ensures none { result ≡ 2 → (handle.old.held ≡ None) × (handle.new.held ≡ None) }
+    ensures empty { handle.old.held ≡ None → (result ≡ 2) × (handle.new.held ≡ None) }
     ensures status { (result ≡ 0) ⊎ (result ≡ 1) ⊎ (result ≡ 2) ⊎ (result ≡ 3) ⊎ (result ≡ 5) }
 {
     let Some(mut any) = take(alloc, handle) else {
@@ -118,6 +119,7 @@ pub fn prune(alloc: Global, handle: &mut Handle, epoch: u64, view: u64) -> u32
         (Pruning floor stream (record { epoch = epoch; view = view })) roster
         handle.old.held handle.new.held }
     ensures none { result ≡ 2 → (handle.old.held ≡ None) × (handle.new.held ≡ None) }
+    ensures empty { handle.old.held ≡ None → (result ≡ 2) × (handle.new.held ≡ None) }
     ensures status { (result ≡ 0) ⊎ (result ≡ 2) }
 {
     let Some(mut any) = take(alloc, handle) else {
@@ -142,8 +144,10 @@ pub fn report(
         (Reporting floor stream buffer.old buffer.new summary.new result) roster
         handle.old.held handle.new.held }
     ensures none { result ≡ 2 → (handle.old.held ≡ None) × (handle.new.held ≡ None) }
+    ensures empty { handle.old.held ≡ None → (result ≡ 2) × (handle.new.held ≡ None) }
     ensures untouched { (result ≡ 2) ⊎ (result ≡ 3) →
         (buffer.new ≡ buffer.old) × (summary.new ≡ summary.old) }
+    ensures status { (result ≡ 0) ⊎ (result ≡ 1) ⊎ (result ≡ 2) ⊎ (result ≡ 3) ⊎ (result ≡ 4) }
 {
     let Some(mut any) = take(alloc, handle) else {
         return ARGUMENTS;
@@ -161,6 +165,7 @@ pub fn votes(alloc: Global, handle: &mut Handle, count: &mut usize) -> u32
         InHandle ⟦<AnyAuditor as Judged>⟧.bases (Counting floor stream count.new result) roster
         handle.old.held handle.new.held }
     ensures none { result ≡ 2 → (handle.old.held ≡ None) × (handle.new.held ≡ None) }
+    ensures empty { handle.old.held ≡ None → (result ≡ 2) × (handle.new.held ≡ None) }
     ensures untouched { (result ≡ 2) ⊎ (result ≡ 3) → count.new ≡ count.old }
     ensures status { (result ≡ 0) ⊎ (result ≡ 2) ⊎ (result ≡ 3) }
 {
@@ -191,7 +196,7 @@ pub fn unverified(
         InHandle ⟦<AnyAuditor as Judged>⟧.bases (Deferring floor stream
         ⟦<AnyAuditor as Judged>⟧.encodings bytes.now records.old records.new needed.new whole.new
         result roster) roster handle.old.held handle.new.held }
-    ensures none { handle.old.held ≡ None → (result ≡ 2) × (handle.new.held ≡ None) }
+    ensures empty { handle.old.held ≡ None → (result ≡ 2) × (handle.new.held ≡ None) }
     ensures untouched { (result ≡ 2) ⊎ (result ≡ 3) → (records.new ≡ records.old) ×
         (needed.new ≡ needed.old) × (whole.new ≡ whole.old) }
     ensures status { (result ≡ 0) ⊎ (result ≡ 1) ⊎ (result ≡ 2) ⊎ (result ≡ 3) ⊎ (result ≡ 4) }
@@ -214,6 +219,7 @@ pub fn held(alloc: Global, handle: &mut Handle, buffer: &mut [u8], size: &mut us
         (Saving floor stream buffer.old buffer.new size.new result) roster
         handle.old.held handle.new.held }
     ensures none { result ≡ 2 → (handle.old.held ≡ None) × (handle.new.held ≡ None) }
+    ensures empty { handle.old.held ≡ None → (result ≡ 2) × (handle.new.held ≡ None) }
     ensures untouched { (result ≡ 2) ⊎ (result ≡ 3) →
         (buffer.new ≡ buffer.old) × (size.new ≡ size.old) }
     ensures status { (result ≡ 0) ⊎ (result ≡ 2) ⊎ (result ≡ 3) ⊎ (result ≡ 4) }
@@ -236,6 +242,7 @@ pub fn news(alloc: Global, handle: &mut Handle, buffer: &mut [u8], size: &mut us
         (Telling floor stream buffer.old buffer.new size.new result) roster
         handle.old.held handle.new.held }
     ensures none { result ≡ 2 → (handle.old.held ≡ None) × (handle.new.held ≡ None) }
+    ensures empty { handle.old.held ≡ None → (result ≡ 2) × (handle.new.held ≡ None) }
     ensures untouched { (result ≡ 2) ⊎ (result ≡ 3) →
         (buffer.new ≡ buffer.old) × (size.new ≡ size.old) }
     ensures status { (result ≡ 0) ⊎ (result ≡ 2) ⊎ (result ≡ 3) ⊎ (result ≡ 4) }

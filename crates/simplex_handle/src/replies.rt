@@ -88,7 +88,7 @@ pub fn report<S: Listing<D> + Drop, D: Digest>(
         Reports floor ⟦<S as Audited<D>>⟧.basis committees stream D.bytes_of
         buffer.old buffer.new summary.new result live.old live.new }
     ensures memory { result ≡ 3 → (buffer.new ≡ buffer.old) × (summary.new ≡ summary.old) }
-    ensures status { result ≢ 2 }
+    ensures status { (result ≡ 0) ⊎ (result ≡ 1) ⊎ (result ≡ 3) ⊎ (result ≡ 4) }
 {
     let Ok((report, text)) = account::<S, D>(alloc, live) else {
         return MEMORY;

@@ -1,4 +1,5 @@
 use Rattle.std.proofs.Common.{refl}
+use Rattle.simplex_handle.proofs.RepliesLemmas.{put_status}
 use Rattle.simplex_handle.proofs.replies.report.Goals as goal
 
 pub returns-in_default-clause-reports : goal.returns-in_default-clause-reports
@@ -20,3 +21,6 @@ returns-clause-reports g c = λ floor committees stream h. record {
 
 pub returns-clause-memory : goal.returns-clause-memory
 returns-clause-memory g c = λ is. absurd (c.write_report.ensures.status.1 is)
+
+pub returns-clause-status : goal.returns-clause-status
+returns-clause-status g c = put_status _ _ _ c.in-Ok.report.fault _ c.write_report.ensures.text
