@@ -111,6 +111,7 @@ module _ {S D C P G : Type 0} (floor : Round) (basis : Schedule S → Basis S D 
     pub given : status ≢ 2 → status ≢ 3 →
         IsPieceGiven floor (basis committees) places_in size stream bytes before after needed whole status
     pub refused : status ≡ 2 → (size ≡ 0) ⊎ EndsWhole (basis committees) stream false
+    pub keyed : size ≡ 0 → status ≡ 2
 
   -- what is held is put, but after a failed allocation
   pub record Saves (before after : List ℕ) (size status : ℕ) (old new : LiveAuditor S D P G) : Type 0 where

@@ -250,6 +250,7 @@ pub fn unverified<S: Counted<D> + Drop, D: Digest>(
     needed: &mut usize,
     whole: &mut usize,
 ) -> u32
+    requires { size ≢ 0 }
     ensures defers { (floor : positions.Round) (committees : Schedule S) (stream : List ℕ) →
         Follows floor ⟦<S as Audited<D>>⟧.basis committees stream live.old →
         Defers floor ⟦<S as Audited<D>>⟧.basis committees stream ⟦<S as Located<D>>⟧.places size

@@ -9,6 +9,7 @@ returns-in_default-clause-defers g c = λ floor committees stream h. record {
       (c.is_whole.ensures.follows floor committees stream h);
   given = λ _ not. absurd (not refl);
   refused = λ is. absurd (omega (arith, is));
+  keyed = λ none. absurd (c.requires none);
 }
 
 pub returns-then-begins-clause-defers : goal.returns-then-begins-clause-defers
@@ -19,6 +20,7 @@ returns-then-begins-clause-defers g c = λ floor committees stream h.
       given = λ _ not. c.list_piece.ensures.given not floor committees stream follows
           (subst (EndsWhole _ stream) c.if-begins.true (c.in-Ok.ensures.whole floor committees stream h));
       refused = λ is. absurd (not_two c.list_piece.result c.list_piece.ensures.status is);
+      keyed = λ none. absurd (c.requires none);
     }
 
 pub returns-else-begins-clause-defers : goal.returns-else-begins-clause-defers
@@ -27,4 +29,5 @@ returns-else-begins-clause-defers g c = λ floor committees stream h. record {
       (c.is_whole.ensures.follows floor committees stream h);
   given = λ not. absurd (not refl);
   refused = λ _. inr (subst (EndsWhole _ stream) c.if-begins.false (c.in-Ok.ensures.whole floor committees stream h));
+  keyed = λ none. absurd (c.requires none);
 }

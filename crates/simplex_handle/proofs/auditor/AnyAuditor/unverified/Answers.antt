@@ -36,4 +36,5 @@ returns-in-Keyed-clause-defers c = λ roster floor stream.
       stays = record { follows = h; waits = record { evidence = refl; splits = refl } };
       given = λ not. absurd (not refl);
       refused = λ _. inl refl;
+      keyed = λ _. refl;
     }) roster
