@@ -1,3 +1,4 @@
 pub mod Tracking
 pub mod TrackingLaws
+pub mod Fed
 pub mod Live

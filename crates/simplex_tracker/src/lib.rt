@@ -4,5 +4,6 @@
 //! [`live`] has it. Inside it, [`tracker`] has what is known of the stream so far.
 #![tactic(auto)]
 
+mod derived;
 pub mod live;
 pub mod tracker;
