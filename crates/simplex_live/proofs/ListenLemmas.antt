@@ -1,9 +1,9 @@
 -- What was heard, from what a monitor heard that kept its state before and behind.
-use Rattle.std.proofs.Common.{◌≡◌, arith, false, true, refl, ℕ, ◌++◌, List, [], ◌∷◌, Option, Result, Ok, Err, append-nil, length, subst, sym}
+use Rattle.std.proofs.Common.{◌≡◌, arith, false, true, refl, ℕ, ◌++◌, ◌∙◌, List, [], ◌∷◌, Option, Result, Ok, Err, append-nil, length, subst, sym}
 use Rattle.std.proofs.Math.Seq.{take-length}
 use Rattle.std.specs.Io.KnownBytes.{Appends, Consumes, IsAtEnd}
 use Rattle.std.specs.List.{flat_map}
-use Rattle.std.specs.Prelude.{IsTrue, OnErr}
+use Rattle.std.specs.Prelude.{IsTrue, OnErr, is_some}
 use Rattle.simplex_scheme.specs.Committees.{Schedule}
 use Rattle.simplex_alarm.specs.Alarm.{Told, nothing_told, told_then}
 use Rattle.simplex_alarm.specs.declared.alarm.News.{News}
@@ -14,7 +14,7 @@ use Rattle.simplex_live.specs.Listening.{AddsUp, HasRead, IsHeard, IsHeardInPart
 use Rattle.simplex_live.specs.declared.listening.Totals.{Totals}
 use Rattle.simplex_live.specs.Options.{lookahead_of, window_of}
 use Rattle.simplex_monitor.specs.Hearing.{AllTold, Heard, Hears, HearsBeginning, news_text, told_by}
-use Rattle.simplex_monitor.specs.Monitoring.{Listens, fed_of}
+use Rattle.simplex_monitor.specs.Monitoring.{HoldsAsBefore, Listens, fed_of, held_of}
 use Rattle.simplex_monitor.specs.declared.monitor.Monitor.{Monitor}
 use Rattle.simplex_monitor.specs.declared.window.Window.{Window}
 
@@ -37,43 +37,49 @@ module _ {S D C P G : Type 0} (basis : Schedule S → Basis S D C P G) where
   -- a window by another name
   pub ready_anew : (committees : Schedule S) (first : Monitor S D P G) (window : Window) (retained ahead : ℕ) →
       window ≡ window_of retained ahead → Listens basis window committees nothing_told [] first →
-      IsReady basis retained ahead false [] committees first
-  ready_anew committees first window retained ahead same listens = record {
+      is_some (held_of first) ≡ false → IsReady basis retained ahead false [] committees first
+  ready_anew committees first window retained ahead same listens holds = record {
     start = window_of retained ahead;
     known = [];
     listens = subst (λ w. Listens basis w committees nothing_told [] first) same listens;
     retains = refl;
     looks = refl;
     anew = λ _. (refl, refl);
+    told = λ e. absurd cc;
+    holds = holds;
   }
 
   -- behind a state, whose messages it was fed, and whose news it told
   pub ready_again : (committees : Schedule S) (first : Monitor S D P G) (window : Window) (retained ahead : ℕ)
       (piece held : List ℕ) (news : News S D P G) → piece ≡ held → window.view_retention ≡ retained →
       window.lookahead ≡ lookahead_of ahead → Listens basis window committees (told_then nothing_told news) piece first →
-      IsReady basis retained ahead true held committees first
-  ready_again committees first window retained ahead piece held news same retains looks listens = record {
+      AllTold first → is_some (held_of first) ≡ true → IsReady basis retained ahead true held committees first
+  ready_again committees first window retained ahead piece held news same retains looks listens told holds = record {
     start = window;
     known = news ∷ [];
     listens = subst (λ (t : List ℕ). Listens basis window committees (told_then nothing_told news) t first) same listens;
     retains = retains;
     looks = looks;
     anew = λ e. absurd cc;
+    told = λ _. told;
+    holds = holds;
   }
 
   -- what a monitor hears that kept its state before and behind
   pub hears_kept : (first kept heard next : Monitor S D P G) (input : List ℕ) (looks : List (News S D P G)) →
-      fed_of kept ≡ fed_of first → Stays first kept → Hears basis kept input looks heard → fed_of next ≡ fed_of heard →
-      Stays heard next → Hears basis first input looks next
-  hears_kept first kept heard next input looks before stays hears behind again = record {
+      fed_of kept ≡ fed_of first → HoldsAsBefore first kept → Stays first kept → Hears basis kept input looks heard →
+      fed_of next ≡ fed_of heard → HoldsAsBefore heard next → Stays heard next → Hears basis first input looks next
+  hears_kept first kept heard next input looks before holds stays hears behind holding again = record {
     fed = let fed = hears.fed in omega (arith, before, fed, behind);
     listens = λ start committees told stream listens.
         again start committees (told_by told looks) (stream ++ input)
         (hears.listens start committees told stream (stays start committees told stream listens));
+    holds = λ start committees told stream listens.
+        holding ∙ hears.holds start committees told stream (stays start committees told stream listens) ∙ holds;
   }
 
   module _ (bytes_of : D → List ℕ) (reader : ReaderUse) (writer : WriterUse) (first kept : Monitor S D P G)
-      (before_is : fed_of kept ≡ fed_of first) (stays : Stays first kept) where
+      (before_is : fed_of kept ≡ fed_of first) (holds : HoldsAsBefore first kept) (stays : Stays first kept) where
     -- a part of the input
     pub heard_in_part : (input more : List ℕ) → Consumes reader.before reader.after (input ++ more) →
         HearsBeginning basis bytes_of kept input writer.before writer.after → IsHeardInPart basis bytes_of reader writer first
@@ -84,8 +90,8 @@ module _ {S D C P G : Type 0} (basis : Schedule S → Basis S D C P G) where
       begun = record {
         next = begun.next;
         looks = begun.looks;
-        hears = hears_kept first kept begun.next begun.next input begun.looks before_is stays begun.hears
-            (λ i. fed_of begun.next) (λ start committees told stream listens. listens);
+        hears = hears_kept first kept begun.next begun.next input begun.looks before_is holds stays begun.hears
+            (λ i. fed_of begun.next) refl (λ start committees told stream listens. listens);
         written = begun.written;
       };
     }
@@ -105,18 +111,19 @@ module _ {S D C P G : Type 0} (basis : Schedule S → Basis S D C P G) where
     pub is_heard : (heard next : Monitor S D P G) (input : List ℕ) (skipped base before : ℕ) (all totals : Totals) →
         Consumes reader.before reader.after input → IsAtEnd reader.after →
         Heard basis bytes_of kept input heard writer.before writer.after → IsTrue writer.flushed →
-        fed_of next ≡ fed_of heard → Stays heard next → (AllTold heard → AllTold next) → HasRead basis first before →
+        fed_of next ≡ fed_of heard → HoldsAsBefore heard next → Stays heard next → (AllTold heard → AllTold next) →
+        HasRead basis first before →
         AddsUp basis next all → totals ≡ behind_state skipped before base all →
         IsHeard basis bytes_of reader writer first skipped base totals
-    is_heard heard next input skipped base before all totals consumed ended hears flushed same again tells has_read adds_up is =
-        record {
+    is_heard heard next input skipped base before all totals consumed ended hears flushed same holding again tells has_read
+        adds_up is = record {
           input = input;
           next = next;
           consumed = consumed;
           ended = ended;
           heard = record {
             looks = hears.looks;
-            hears = hears_kept first kept heard next input hears.looks before_is stays hears.hears same again;
+            hears = hears_kept first kept heard next input hears.looks before_is holds stays hears.hears same holding again;
             told = tells hears.told;
             written = hears.written;
           };

@@ -1,5 +1,5 @@
 -- What is heard of an input, and what is written of it.
-use Rattle.std.specs.Prelude.{◌≡◌, ◌+◌, ◌-◌, ◌^◌, ℕ, ◌++◌, Bool, List, [], IsTrue, false, length, min, option_map}
+use Rattle.std.specs.Prelude.{◌≡◌, ◌+◌, ◌-◌, ◌^◌, ℕ, ◌++◌, Bool, List, [], IsTrue, false, is_some, length, min, option_map, true}
 use Rattle.std.specs.Io.KnownBytes.{Consumes, IsAtEnd}
 use Rattle.simplex_scheme.specs.Committees.{Schedule}
 use Rattle.simplex_alarm.specs.Alarm.{Told, nothing_told}
@@ -7,8 +7,8 @@ use Rattle.simplex_alarm.specs.declared.alarm.News.{News}
 use Rattle.simplex_stream.specs.declared.fault.Fault.{Fault}
 use Rattle.simplex_audit.specs.Basis.{Basis}
 use Rattle.simplex_audit.specs.Outcome.{ReaderUse, WriterUse}
-use Rattle.simplex_monitor.specs.Hearing.{Heard, HearsBeginning, told_by}
-use Rattle.simplex_monitor.specs.Monitoring.{EndsAt, HasVotes, Listens}
+use Rattle.simplex_monitor.specs.Hearing.{AllTold, Heard, HearsBeginning, told_by}
+use Rattle.simplex_monitor.specs.Monitoring.{EndsAt, HasVotes, Listens, held_of}
 use Rattle.simplex_monitor.specs.declared.monitor.Monitor.{Monitor}
 use Rattle.simplex_monitor.specs.declared.window.Window.{Window}
 use Rattle.simplex_live.specs.Options.{lookahead_of, window_of}
@@ -49,8 +49,9 @@ module _ {S D C P G : Type 0} (basis : Schedule S → Basis S D C P G) where
         (listens : Listens basis start committees told stream monitor) →
         EndsAt (basis committees).format stream listens.messages totals.fault
 
-  -- A monitor before it hears the input: it began with the window that the options name, took messages that a state held, and
-  -- told what arose in them. Without a state the window is as it begins, and there were no messages.
+  -- A monitor before it hears the input: it began with the window that the options name, took messages that a state held, has
+  -- told all that arose in them, and holds messages. Without a state the window is as it begins, there were no messages, and
+  -- none are held.
   pub record IsReady (retained ahead : ℕ) (kept : Bool) (held : List ℕ) (committees : Schedule S) (first : Monitor S D P G) :
       Type 0 where
     pub start : Window
@@ -59,6 +60,8 @@ module _ {S D C P G : Type 0} (basis : Schedule S → Basis S D C P G) where
     pub retains : start.view_retention ≡ retained
     pub looks : start.lookahead ≡ lookahead_of ahead
     pub anew : kept ≡ false → (start ≡ window_of retained ahead) × (held ≡ [])
+    pub told : kept ≡ true → AllTold first
+    pub holds : is_some (held_of first) ≡ kept
 
   module _ (bytes_of : D → List ℕ) (reader : ReaderUse) (writer : WriterUse) where
     -- From a monitor on the whole input was heard, and exactly the lines of what was told were written. So much adds up.

@@ -5,7 +5,7 @@ ghost use Rattle.std.specs.Prelude.{◌≡◌, IfErr, List, ℕ};
 ghost use Rattle.simplex_alarm.specs.Alarm.{Told};
 ghost use Rattle.simplex_live.specs.Ending.{IsOfWords};
 ghost use Rattle.simplex_monitor.specs.Hearing.{AllTold};
-ghost use Rattle.simplex_monitor.specs.Monitoring.{Listens, fed_of};
+ghost use Rattle.simplex_monitor.specs.Monitoring.{HoldsAsBefore, Listens, fed_of};
 ghost use Rattle.simplex_monitor.specs.declared.window.Window as windows;
 ghost use Rattle.simplex_scheme.specs.Committees.{Schedule};
 
@@ -134,6 +134,7 @@ impl<'a, F: Files<File = File>, E: Write> Keeper<'a, F, E> {
             Listens ⟦<S as Audited<D>>⟧.basis start committees told stream monitor.new }
         ensures told { AllTold monitor.old → AllTold monitor.new }
         ensures fed { fed_of monitor.new ≡ fed_of monitor.old }
+        ensures holds { HoldsAsBefore monitor.old monitor.new }
         ensures error { IfErr result (λ trouble. ¬ IsOfWords trouble) }
     {
         let Some(store) = &mut self.store else {
@@ -165,6 +166,7 @@ impl<'a, F: Files<File = File>, E: Write> Keeper<'a, F, E> {
             Listens ⟦<S as Audited<D>>⟧.basis start committees told stream monitor.new }
         ensures told { AllTold monitor.old → AllTold monitor.new }
         ensures fed { fed_of monitor.new ≡ fed_of monitor.old }
+        ensures holds { HoldsAsBefore monitor.old monitor.new }
     {
         if let Err(trouble) = self.write(monitor) {
             if !self.said {

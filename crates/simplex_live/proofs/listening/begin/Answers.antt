@@ -7,4 +7,4 @@ pub returns : goal.returns
 returns g c =
     ready_anew _ c.args.committees.now c.new.result _ c.args.options.now.retained c.args.options.now.ahead
     (λ i. let window = c.window_at-window.ensures.first (λ j. None) i in
-    first_window window.finalized window.view_retention window.lookahead) c.new.ensures.listens
+    first_window window.finalized window.view_retention window.lookahead) c.new.ensures.listens c.new.ensures.holds
