@@ -1,30 +1,39 @@
 -- How a run ends, from what was heard.
-use Rattle.std.proofs.Common.{◌≡◌, ◌⊎◌, ◌-◌, inl, inr, refl, Bool, List, None, Option, Some, Ok, Err, Result, ℕ, drop, length, map, subst, sym, take}
+use Rattle.std.proofs.Common.{◌≡◌, ◌≢◌, ◌⊎◌, ◌-◌, ap, inl, inr, refl, Bool, List, None, Option, Some, Ok, Err, Result, ℕ, drop, length, map, subst, sym, take}
 use Rattle.std.specs.Global.{Global}
 use Rattle.std.specs.Io.KnownBytes.{Keeps}
-use Rattle.std.specs.Prelude.{IfErr, IfOk, IsErr, OnErr, String, is_some, string_bytes}
+use Rattle.std.specs.Prelude.{IfErr, IfOk, OnErr, String, is_some, string_bytes}
 use Rattle.simplex_scheme.specs.Committees.{Schedule}
 use Rattle.simplex_audit.specs.Basis.{Basis}
 use Rattle.simplex_audit.specs.Outcome.{ReaderUse, WriterUse}
 use Rattle.simplex_cli.specs.Arguments.{NameCommittees, Naming}
+use Rattle.simplex_cli.specs.Status.{failure_of, status_after}
+use Rattle.simplex_cli.specs.declared.status.Failure.TheVariants.{OutOfMemory}
+use Rattle.simplex_cli.specs.declared.status.Status.TheVariants as statuses
+use Rattle.simplex_stream.specs.declared.run_error.RunError.{RunError}
+use Rattle.simplex_stream.specs.declared.run_error.RunError.TheVariants as errors
 use Rattle.simplex_cli.specs.Verdicts.{AreBehindVerdicts}
 use Rattle.simplex_cli.specs.declared.verdicts.SignatureSize.{SignatureSize}
 use Rattle.simplex_cli.specs.OptionLaws.{words_behind}
-use Rattle.simplex_live.specs.Ending.{HearingEnds, IsOfWords, LiveBases, LiveEnding, LiveEnds, OptionsEnd}
+use Rattle.simplex_live.specs.Ending.{HearingEnds, IsFailure, IsOfState, LiveBases, LiveEnding, LiveEnds, OptionsEnd, status_of_trouble}
 use Rattle.simplex_live.specs.Options.{AreBehindOptions}
 use Rattle.simplex_live.specs.Listening.{IsHeard, IsHeardInPart, IsReady}
 use Rattle.simplex_live.specs.declared.complaints.Trouble.{Trouble}
+use Rattle.simplex_live.specs.declared.complaints.Trouble.TheVariants.{KeyFile, OtherState, Run}
 use Rattle.simplex_live.specs.declared.listening.Totals.{Totals}
 use Rattle.simplex_live.specs.declared.options.Options.{Options}
 use Rattle.simplex_monitor.specs.declared.monitor.Monitor.{Monitor}
 
 module _ {S D C P G : Type 0} (basis : Schedule S → Basis S D C P G) (bytes_of : D → List ℕ) (naming : Naming S)
     (texts : List (List ℕ)) (options : Options) (reader : ReaderUse) (writer : WriterUse) where
-  -- nothing was written, and the trouble is not of the words
-  pub hearing_fails : (result : Result Totals Trouble) → IsErr result → Keeps writer.before writer.after →
-      IfErr result (λ trouble. ¬ IsOfWords trouble) → HearingEnds basis bytes_of naming texts options reader writer result
-  hearing_fails (Ok totals) failed keeps other = absurd cc
-  hearing_fails (Err trouble) failed keeps other = (inl keeps, λ of_words. absurd (other of_words))
+  -- nothing was written, and the trouble is of the state that is given
+  pub hearing_fails : (trouble : Trouble) (result : Result Totals Trouble) → result ≡ Err trouble →
+      Keeps writer.before writer.after → options.state ≢ None → IsOfState trouble →
+      HearingEnds basis bytes_of naming texts options reader writer result
+  hearing_fails trouble result is keeps given (inl other) =
+      subst (HearingEnds basis bytes_of naming texts options reader writer) (sym is) (inl keeps, inr (inl (other, given)))
+  hearing_fails trouble result is keeps given (inr failure) =
+      subst (HearingEnds basis bytes_of naming texts options reader writer) (sym is) (inl keeps, inr (inr failure))
 
   -- the input was heard by a monitor that was ready
   pub hearing_ends : (committees : Schedule S) (held : List ℕ) (first : Monitor S D P G) (kept : Bool)
@@ -33,7 +42,7 @@ module _ {S D C P G : Type 0} (basis : Schedule S → Basis S D C P G) (bytes_of
       (result : Result Totals Trouble) →
       IfOk result (IsHeard basis bytes_of reader writer first skipped base) →
       OnErr result (Keeps writer.before writer.after ⊎ IsHeardInPart basis bytes_of reader writer first) →
-      IfErr result (λ trouble. ¬ IsOfWords trouble) → HearingEnds basis bytes_of naming texts options reader writer result
+      IfErr result IsFailure → HearingEnds basis bytes_of naming texts options reader writer result
   hearing_ends committees held first kept skipped base same named is ready anew (Ok totals) heard part other = record {
     ready = record {
       committees = committees;
@@ -47,7 +56,7 @@ module _ {S D C P G : Type 0} (basis : Schedule S → Basis S D C P G) (bytes_of
     anew = anew;
   }
   hearing_ends committees held first kept skipped base same named is ready anew (Err trouble) heard (inl keeps) other =
-      (inl keeps, λ of_words. absurd (other of_words))
+      (inl keeps, inr (inr other))
   hearing_ends committees held first kept skipped base same named is ready anew (Err trouble) heard (inr part) other = (
     inr (record {
       ready = record {
@@ -59,13 +68,30 @@ module _ {S D C P G : Type 0} (basis : Schedule S → Basis S D C P G) (bytes_of
       };
       heard = part;
     }),
-    λ of_words. absurd (other of_words),
+    inr (inr other),
   )
 
--- a result that is an error is some error
-pub err_of : {X E : Type 0} (result : Result X E) → IsErr result → (e : E) × (result ≡ Err e)
-err_of (Ok x) failed = absurd cc
-err_of (Err e) failed = (e, refl)
+-- a state is another's, or there is no memory for it
+pub resume_fails : (trouble : Trouble) → (trouble ≡ OtherState) ⊎ (trouble ≡ Run OutOfMemory) → IsOfState trouble
+resume_fails trouble (inl other) = inl other
+resume_fails trouble (inr memory) = inr (ap status_of_trouble memory)
+
+-- the file of keys cannot be read
+pub keys_fail : (trouble : Trouble) (ending : Result Totals Trouble) → ending ≡ Err trouble →
+    (trouble ≡ KeyFile) ⊎ (trouble ≡ Run OutOfMemory) → (ending ≡ Err KeyFile) ⊎ (ending ≡ Err (Run OutOfMemory))
+keys_fail trouble ending is (inl file) = let whole : ending ≡ Err KeyFile = cc in inl whole
+keys_fail trouble ending is (inr memory) = let whole : ending ≡ Err (Run OutOfMemory) = cc in inr whole
+
+after_run : (error : RunError) → status_after (failure_of error) ≡ statuses.Failed
+after_run errors.Read = refl
+after_run errors.TooLong = refl
+after_run errors.Write = refl
+after_run errors.OutOfMemory = refl
+
+-- the trouble is of a run
+pub run_fails : (error : RunError) (result : Result Totals Trouble) → result ≡ Err (Run (failure_of error)) →
+    IfErr result IsFailure
+run_fails error result is = subst (λ (r : Result Totals Trouble). IfErr r IsFailure) (sym is) (after_run error)
 
 -- the words behind the size of signatures, as a slice of the arguments
 pub verdicts_behind : (count : ℕ) (arguments : List (String Global)) (given : Option SignatureSize) (size : SignatureSize) →

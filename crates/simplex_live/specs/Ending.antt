@@ -48,6 +48,14 @@ status_of_live (Ok None) = statuses.Whole
 status_of_live (Ok (Some totals)) = status_of_fault totals.fault
 status_of_live (Err trouble) = status_of_trouble trouble
 
+-- the trouble is of a device or of an allocation
+abbrev pub IsFailure : Trouble → Type 0
+IsFailure trouble = status_of_trouble trouble ≡ statuses.Failed
+
+-- or that the state is another's
+abbrev pub IsOfState : Trouble → Type 0
+IsOfState trouble = (trouble ≡ troubles.OtherState) ⊎ IsFailure trouble
+
 -- the trouble is that words name no committees
 abbrev pub IsOfWords : Trouble → Type 0
 IsOfWords troubles.Order = ⊤
@@ -77,11 +85,16 @@ module _ {S D C P G : Type 0} (basis : Schedule S → Basis S D C P G) (bytes_of
     pub ready : AreReady
     pub heard : IsHeardInPart basis bytes_of reader writer ready.first
 
-  -- how a run under these texts ends
+  -- Why a run under these texts fails: they name no committees, a state that is given is another's, or it is a failure.
+  abbrev pub IsCause : Trouble → Type 0
+  IsCause trouble =
+      (IsOfWords trouble × NameNoCommittees naming texts) ⊎ ((trouble ≡ troubles.OtherState) × (options.state ≢ None))
+      ⊎ IsFailure trouble
+
+  -- how it ends
   abbrev pub HearingEnds : Result Totals Trouble → Type 0
   HearingEnds (Ok totals) = AreHeard totals
-  HearingEnds (Err trouble) =
-      (Keeps writer.before writer.after ⊎ AreHeardInPart) × (IsOfWords trouble → NameNoCommittees naming texts)
+  HearingEnds (Err trouble) = (Keeps writer.before writer.after ⊎ AreHeardInPart) × IsCause trouble
 
 -- how the messages of an input are read and judged: under plain keys, and by verdicts of each size
 pub record LiveBases : Type 1 where
@@ -136,11 +149,13 @@ abbrev pub AskForText : List (List ℕ) → Type 0
 AskForText words = (word : List ℕ) × (behind : List (List ℕ)) × (words ≡ word ∷ behind) × IsQuestion word
 
 -- How a run behind the options ends: without `--keys` the words behind them name committees, else these and those of a file.
+-- If the file cannot be read, nothing is written.
 abbrev pub BehindEnd : LiveBases → List (List ℕ) → Options → ReaderUse → WriterUse → Result Totals Trouble →
     Type 0
 BehindEnd bases behind options reader writer ending =
     (named : List (List ℕ)) × (options.keys ≡ None → named ≡ behind)
-    × ((Keeps writer.before writer.after × (options.keys ≢ None) × ((trouble : Trouble) × (ending ≡ Err trouble)))
+    × ((Keeps writer.before writer.after × (options.keys ≢ None)
+    × ((ending ≡ Err troubles.KeyFile) ⊎ (ending ≡ Err (troubles.Run OutOfMemory))))
     ⊎ WordsEnd bases named options reader writer ending)
 
 -- how a run under words that begin with options ends

@@ -3,7 +3,7 @@
 
 ghost use Rattle.std.specs.Prelude.{◌≡◌, IfErr, List, ℕ};
 ghost use Rattle.simplex_alarm.specs.Alarm.{Told};
-ghost use Rattle.simplex_live.specs.Ending.{IsOfWords};
+ghost use Rattle.simplex_live.specs.Ending.{IsFailure};
 ghost use Rattle.simplex_monitor.specs.Hearing.{AllTold};
 ghost use Rattle.simplex_monitor.specs.Monitoring.{HoldsAsBefore, Listens, fed_of};
 ghost use Rattle.simplex_monitor.specs.declared.window.Window as windows;
@@ -135,7 +135,7 @@ impl<'a, F: Files<File = File>, E: Write> Keeper<'a, F, E> {
         ensures told { AllTold monitor.old → AllTold monitor.new }
         ensures fed { fed_of monitor.new ≡ fed_of monitor.old }
         ensures holds { HoldsAsBefore monitor.old monitor.new }
-        ensures error { IfErr result (λ trouble. ¬ IsOfWords trouble) }
+        ensures error { IfErr result IsFailure }
     {
         let Some(store) = &mut self.store else {
             return Ok(());

@@ -1,6 +1,9 @@
 //! Files of keys.
 
+ghost use Rattle.std.specs.Prelude.{◌≡◌, ◌⊎◌, IfErr};
+
 use crate::complaints::Trouble;
+use simplex_cli::status::Failure;
 use std::alloc::{AllocError, Global};
 use std::fs::{File, Files};
 use std::io::Read;
@@ -12,7 +15,9 @@ pub(crate) fn words_of_file<F: Files<File = File>>(
     files: &F,
     path: &str,
     words: &[String],
-) -> Result<Vec<String>, Trouble> {
+) -> Result<Vec<String>, Trouble>
+    ensures { IfErr result (λ trouble. (trouble ≡ Trouble.KeyFile) ⊎ (trouble ≡ Trouble.Run Failure.OutOfMemory)) }
+{
     let Ok(mut file) = File::open(files, path) else {
         return Err(Trouble::KeyFile);
     };

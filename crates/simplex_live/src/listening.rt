@@ -2,7 +2,7 @@
 
 ghost use Rattle.std.specs.Prelude.{◌≡◌, ◌⊎◌, [], false, true, Err, IfErr, IfOk, IfSome, IsTrue, None, OnErr, option_map};
 ghost use Rattle.std.specs.Io.KnownBytes.{Keeps};
-ghost use Rattle.simplex_live.specs.Ending.{IsOfWords};
+ghost use Rattle.simplex_live.specs.Ending.{IsFailure};
 ghost use Rattle.simplex_live.specs.Listening.{AddsUp, IsHeard, IsHeardInPart, IsReady, behind_state, moved};
 ghost use Rattle.simplex_live.specs.Options.{lookahead_of, window_of};
 ghost use Rattle.simplex_stream.specs.Watched.{has_failed, inner_of};
@@ -96,7 +96,8 @@ pub fn resume<'a, S: Listing<D>, D: Digest>(
 ) -> Result<Monitor<'a, S, D>, Trouble>
     ensures ready { IfOk result (IsReady ⟦<S as Audited<D>>⟧.basis options.now.retained options.now.ahead
         true recovered.now.held.items committees.now) }
-    ensures error { IfErr result (λ trouble. ¬ IsOfWords trouble) }
+    ensures error { IfErr result (λ trouble. (trouble ≡ Trouble.OtherState)
+        ⊎ (trouble ≡ Trouble.Run Failure.OutOfMemory)) }
 {
     let window = window_at(options, recovered.mark);
     if !window.is_in_order() {
@@ -133,7 +134,7 @@ pub fn listen<'a, S: Listing<D>, D: Digest, F: Files<File = File>, R: Read, W: W
         ⊎ IsHeardInPart ⟦<S as Audited<D>>⟧.basis D.bytes_of
         (reader_use R.remaining input.old input.new)
         (writer_use W.contents output.old output.new) monitor.entry) }
-    ensures error { IfErr result (λ trouble. ¬ IsOfWords trouble) }
+    ensures error { IfErr result IsFailure }
     ensures read_failed { IsTrue (has_failed input.new) → result ≡ Err (Trouble.Run Failure.Read) }
     ensures write_failed { IsTrue (has_failed output.new) → result ≡ Err (Trouble.Run Failure.Write) }
 {

@@ -1,7 +1,7 @@
 //! The files of a state. A state is written anew into another file, which takes its place, and then by appending records.
 
 ghost use Rattle.std.specs.Prelude.{IfErr};
-ghost use Rattle.simplex_live.specs.Ending.{IsOfWords};
+ghost use Rattle.simplex_live.specs.Ending.{IsFailure, IsOfState};
 
 use crate::complaints::Trouble;
 use crate::state::{Mark, Recovered, head, record, recover};
@@ -26,7 +26,7 @@ pub struct Store<'a, F: Files<File = File>> {
 
 /// A path with a word behind it.
 fn beside(alloc: Global, path: &str, word: &str) -> Result<String, Trouble>
-    ensures { IfErr result (λ trouble. ¬ IsOfWords trouble) }
+    ensures { IfErr result IsFailure }
 {
     let mut name = String::from_str(alloc, path)?;
     name.push_str(word)?;
@@ -41,7 +41,7 @@ pub fn look<F: Files<File = File>>(
     path: &str,
     words: Option<&[String]>,
 ) -> Result<Recovered, Trouble>
-    ensures { IfErr result (λ trouble. ¬ IsOfWords trouble) }
+    ensures { IfErr result IsOfState }
 {
     let mut bytes = Vec::new(alloc);
     match File::open(files, path) {
@@ -67,7 +67,7 @@ impl<'a, F: Files<File = File>> Store<'a, F> {
         path: &'a str,
         words: &[String],
     ) -> Result<(Self, Recovered), Trouble>
-        ensures { IfErr result (λ trouble. ¬ IsOfWords trouble) }
+        ensures { IfErr result IsOfState }
     {
         let lock_path = beside(alloc, path, ".lock")?;
         let mut how = OpenOptions::new();
@@ -92,7 +92,7 @@ impl<'a, F: Files<File = File>> Store<'a, F> {
 
     /// Writes the state anew: its file is as it was or whole.
     pub fn write_anew(&mut self, alloc: Global, mark: &Mark, held: &[u8]) -> Result<(), Trouble>
-        ensures { IfErr result (λ trouble. ¬ IsOfWords trouble) }
+        ensures { IfErr result IsFailure }
     {
         self.file = None;
         let record = record(alloc, mark, held)?;
@@ -112,7 +112,7 @@ impl<'a, F: Files<File = File>> Store<'a, F> {
 
     /// Appends a record. If that fails, the state has to be written anew.
     pub fn append(&mut self, alloc: Global, mark: &Mark, more: &[u8]) -> Result<(), Trouble>
-        ensures { IfErr result (λ trouble. ¬ IsOfWords trouble) }
+        ensures { IfErr result IsFailure }
     {
         let record = record(alloc, mark, more)?;
         let Some(mut file) = self.file.take() else {

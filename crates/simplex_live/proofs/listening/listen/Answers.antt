@@ -1,6 +1,7 @@
-use Rattle.std.proofs.Common.{inl, inr}
+use Rattle.std.proofs.Common.{rules, inl, inr}
 use Rattle.std.proofs.KnownBytes.{Keeps-refl}
 use Rattle.simplex_audit.specs.Outcome.{reader_use, writer_use}
+use Rattle.simplex_live.proofs.EndingLemmas.{run_fails}
 use Rattle.simplex_live.proofs.ListenLemmas.{heard_as_part, heard_in_part, is_heard, on_err}
 use Rattle.simplex_live.proofs.listening.listen.Goals as goal
 
@@ -31,6 +32,10 @@ returns-in_err-all-clause-begun g c =
     (reader_use g.R.Read.remaining c.args.input.now c.monitor_input.new.reader)
     (writer_use g.W.Write.contents c.args.output.now c.monitor_input.new.writer) c.args.monitor c.write.new.monitor
     c.write.ensures.fed c.write.ensures.holds c.write.ensures.listens input c.in_ok-monitor.monitor consumed heard))
+
+pub returns-in_err-monitor-clause-error : goal.returns-in_err-monitor-clause-error
+returns-in_err-monitor-clause-error g c =
+    run_fails c.in_err-monitor.field-0.0 c.from_residual-in_err-monitor.result (search rules)
 
 pub returns-clause-whole : goal.returns-clause-whole
 returns-clause-whole g c =

@@ -1,7 +1,7 @@
 use Rattle.std.proofs.Common.{rules, [], false, true}
 use Rattle.std.proofs.KnownBytes.{Keeps-refl}
 use Rattle.simplex_audit.specs.Outcome.{reader_use, writer_use}
-use Rattle.simplex_live.proofs.EndingLemmas.{hearing_ends, hearing_fails}
+use Rattle.simplex_live.proofs.EndingLemmas.{hearing_ends, hearing_fails, resume_fails}
 use Rattle.simplex_live.proofs.live.hear.Goals as goal
 
 -- without a state
@@ -15,7 +15,14 @@ returns-in_default-clause-ends g c =
 
 pub returns-in_err-store-clause-ends : goal.returns-in_err-store-clause-ends
 returns-in_err-store-clause-ends g c =
-    hearing_fails _ _ _ _ c.args.options.now _ _ c.from_residual.result c.from_residual.ensures.0 (Keeps-refl _) (search rules)
+    hearing_fails _ _ _ _ c.args.options.now _ _ c.in_err-store.field-0.0 c.from_residual.result (search rules) (Keeps-refl _)
+    (λ e. let is = c.in-Some.is in absurd cc) c.in_err-store.ensures
+
+pub returns-in_err-monitor-clause-ends : goal.returns-in_err-monitor-clause-ends
+returns-in_err-monitor-clause-ends g c =
+    hearing_fails _ _ _ _ c.args.options.now _ _ c.in_err-monitor.field-0.0 c.from_residual-in_err-monitor.result (search rules)
+    (Keeps-refl _) (λ e. let is = c.in-Some.is in absurd cc)
+    (resume_fails c.in_err-monitor.field-0.0 c.in_err-monitor.ensures.error)
 
 -- behind a state
 pub returns-clause-ends : goal.returns-clause-ends

@@ -1,6 +1,6 @@
-use Rattle.std.proofs.Common.{inl, inr, map, refl, string_bytes}
+use Rattle.std.proofs.Common.{rules, inl, inr, map, refl, string_bytes}
 use Rattle.std.proofs.KnownBytes.{Keeps-refl}
-use Rattle.simplex_live.proofs.EndingLemmas.{err_of}
+use Rattle.simplex_live.proofs.EndingLemmas.{keys_fail}
 use Rattle.simplex_live.proofs.live.hear_options.Goals as goal
 
 -- without a file of keys
@@ -11,7 +11,11 @@ pub returns-in_err-named-clause-ends : goal.returns-in_err-named-clause-ends
 returns-in_err-named-clause-ends g c = (
   map string_bytes c.args.behind.now,
   λ e. refl,
-  inl (Keeps-refl _, (λ e. let is = c.in-Some.is in absurd cc), err_of c.from_residual.result c.from_residual.ensures.0),
+  inl (
+    Keeps-refl _,
+    (λ e. let is = c.in-Some.is in absurd cc),
+    keys_fail c.in_err-named.field-0.0 c.from_residual.result (search rules) c.in_err-named.ensures,
+  ),
 )
 
 -- with a file
