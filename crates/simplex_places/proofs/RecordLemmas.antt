@@ -263,7 +263,8 @@ module _ {M D G K : Type 0} (cmp : K → K → Ordering) (eq : K → K → Bool)
 
   vote_nowhere : (v : SignedVote D G) (signer kind : ℕ) → IsSought cmp before (key_of v) →
       All (λ m. bears v m ≡ false) messages →
-      StandsNowhere (message_at (found_of (get cmp after (key_of v)))) (vote_at signer kind (found_of (get cmp after (key_of v))))
+      StandsNowhere (message_at (found_of (get cmp after (key_of v))))
+      (vote_at signer kind (found_of (get cmp after (key_of v))))
   vote_nowhere v signer kind sought none =
       subst (λ (o : Option Carried). StandsNowhere (message_at o) (vote_at signer kind o)) (sym (none_found v sought none))
       (record { message = refl; subject = refl; empty = refl; verdict = refl })
