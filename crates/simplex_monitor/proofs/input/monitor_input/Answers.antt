@@ -16,14 +16,16 @@ returns-in_err-tell-clause-begun g c =
       [],
       Consumes-nil _,
       begun_look (basis g) g.D.Fixed.bytes_of c.args.monitor c.news.new.self [] c.news.result _ _
-          (hears_look (basis g) c.args.monitor c.news.new.self c.news.result c.news.ensures.fed c.news.ensures.listens c.news.ensures.holds)
+          (hears_look (basis g) c.args.monitor c.news.new.self c.news.result c.news.ensures.fed c.news.ensures.listens
+          c.news.ensures.holds)
           c.in_err-tell.ensures.begun,
     )
 
 pub returns-in_err-piece-clause-begun : goal.returns-in_err-piece-clause-begun
 returns-in_err-piece-clause-begun g c =
     let heard = heard_look (basis g) g.D.Fixed.bytes_of c.args.monitor c.news.new.self [] c.news.result _ _
-    (hears_look (basis g) c.args.monitor c.news.new.self c.news.result c.news.ensures.fed c.news.ensures.listens c.news.ensures.holds)
+    (hears_look (basis g) c.args.monitor c.news.new.self c.news.result c.news.ensures.fed c.news.ensures.listens
+    c.news.ensures.holds)
     c.news.ensures.told c.in_ok-tell.ensures.written in
     if_err c.from_residual-in_err-piece.result _ (
       [],
@@ -43,7 +45,8 @@ reads-init g c = (
     Consumes-nil _,
     search rules,
     heard_look (basis g) g.D.Fixed.bytes_of c.args.monitor c.news.new.self [] c.news.result _ _
-        (hears_look (basis g) c.args.monitor c.news.new.self c.news.result c.news.ensures.fed c.news.ensures.listens c.news.ensures.holds)
+        (hears_look (basis g) c.args.monitor c.news.new.self c.news.result c.news.ensures.fed c.news.ensures.listens
+        c.news.ensures.holds)
         c.news.ensures.told c.in_ok-tell.ensures.written,
   ),
 )
