@@ -10,7 +10,8 @@ use Rattle.std.proofs.lemmas.Slice.Eq.{bytes_eq-Decides}
 use Rattle.std.proofs.lemmas.Option.{slice_get_within, get_or_from_slice_get}
 use Rattle.std.proofs.lemmas.List.Elements.{All-contains, Contains-from_at}
 
-is_key : (found : Option (List ℕ)) (key : List ℕ) → IsSomeAnd found (λ one. eq_by_cmp (slice_cmp nat_cmp) one key ≡ true) → found ≡ Some key
+is_key : (found : Option (List ℕ)) (key : List ℕ) →
+    IsSomeAnd found (λ one. eq_by_cmp (slice_cmp nat_cmp) one key ≡ true) → found ≡ Some key
 is_key None key h = absurd h
 is_key (Some one) key h = ap (λ x. Some x) ((bytes_eq-Decides one key).0 (sym (is_eq-slice_cmp one key) ∙ h))
 

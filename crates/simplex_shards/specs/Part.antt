@@ -37,7 +37,7 @@ pub record IsPartAudit {S D C P G : Type 0} (basis : Basis S D C P G) (part : Ro
   pub report_is : IsPartReport basis part messages report
   pub fault_is : IsFault basis.format.reading (length (flat_map basis.format.encoding messages)) rest report.fault
 
--- a report has of another's evidence and splits those of a part of the rounds, and its fault
+-- a report has of another's evidence and splits those of a part of the rounds
 pub record IsPartOf {S D P G : Type 0} (part : Round → Bool) (whole report : Report S D P G) : Type 0 where
   pub evidence : evidence_in report ≡ evidence_within part (evidence_in whole)
   pub splits : report.splits.items ≡ splits_within part whole.splits.items

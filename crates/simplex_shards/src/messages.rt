@@ -64,7 +64,7 @@ fn tag_of<S: CertificateScheme, D: Digest>(message: &Activity<S, D>) -> u32
 }
 
 impl<S: SkipCertificate<D>, D: Digest> Peek for Activity<S, D> {
-    // Where a scheme skips all certificates, evidence alone is decoded.
+    // If a scheme skips all certificates, evidence alone is decoded.
     ghost is_decoded = { λ message. S.skips_all ≡ true → IsEvidence message };
 
     fn peek(bytes: &[u8], bound: u32) -> Option<Peeked> {
