@@ -18,8 +18,8 @@ ghost use Rattle.simplex_schemes.specs.CommitteeLaws.{quorum_meaning, listed_siz
 ghost use Rattle.node_examples.specs.Judged.{nobody, is_on, judged_good};
 ghost use Rattle.node_examples.specs.JudgedLaws.{judged_members};
 
-use simplex_base::codec::Read;
 use simplex_base::codec::fixed_bytes::FixedBytes;
+use simplex_base::codec::{Encoding, Read};
 use simplex_base::positions::Participant;
 use simplex_scheme::scheme::{
     AssemblyError, Attestation, CertificateScheme, CertificateVerifier, Digest, Listing, Scheme,
@@ -234,6 +234,9 @@ impl<D: Digest> Scheme<D> for Judged {
             true) attestations.items →
             is_quorum (length self.now.keys)
             (judged_good (format_of ⟦<D as Read>⟧) self.now subject) certificate ≡ true) }
+        ensures readable { IfOk result (λ certificate.
+            All ⟦<Attestation<Judged> as Encoding>⟧.is_value attestations.items →
+            ⟦<Listed<Judged> as Read>⟧.fits (length self.now.keys) certificate) }
     {
         assembled(self, attestations)
     }

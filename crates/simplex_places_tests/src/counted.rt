@@ -284,6 +284,9 @@ impl<D: Digest> Scheme<D> for Counted {
             true) attestations.items →
             is_quorum (length self.now) (marked_good (length self.now) subject) certificate ≡
             true) }
+        ensures readable { IfOk result (λ certificate.
+            All ⟦<Attestation<Counted> as Encoding>⟧.is_value attestations.items →
+            ⟦<CountedCertificate as Read>⟧.fits (length self.now) certificate) }
     {
         Ok(CountedCertificate(assembled(self, attestations)?))
     }

@@ -69,8 +69,9 @@ impl<D: Copy> Copy for Proposal<D> {}
 pub type ProposalParts<'a> = (Round, View, &'a [u8]);
 
 impl<D: Digest> Proposal<D> {
-    /// The parts of the proposal at the front of some bytes, if its numbers have at most four bytes, and the bytes after it. `None`
-    /// only where the bytes are refused, or a number is longer. The payload is not copied, as it is with each move of a proposal.
+    /// The parts of the proposal at the front of some bytes, if its numbers have at most four bytes, and the bytes after it.
+    /// `None` only where the bytes are refused, or a number is longer. The payload is not copied, as it is with each move of a
+    /// proposal.
     #[inline(always)]
     pub fn short_parts(bytes: &[u8]) -> Option<(ProposalParts<'_>, &[u8])>
         ensures size { IfSome result (λ x. length x.0.2.now ≡ D.SIZE) }

@@ -136,7 +136,7 @@ pub trait CertificateScheme: SchemeTypes {
     fn certificate_codec_config(&self) -> u32
         ensures { result ≡ length (keys self.now) };
 
-    /// The greatest number of bytes, at most 2^50, of a certificate that is read under this bound.
+    /// No certificate that is read under this bound has more bytes: at most 2^50.
     fn max_certificate_size(participants: u32) -> usize
         ensures size { result ≡ max_size participants }
         ensures limited { result ≤ 2 ^ 50 };
@@ -217,7 +217,8 @@ pub trait Scheme<D: Digest>: CertificateVerifier<D> {
     /// Assembles a certificate from attestations whose signers are distinct and in the committee, of which
     /// [`can_assemble`](crate::assembly::can_assemble) returns true. `InsufficientAttestations`, with the quorum and the
     /// number of attestations, where that number is below the quorum; nothing is then allocated. From a quorum on the
-    /// only error is `OutOfMemory`. The certificate certifies every subject that all the attestations are valid for.
+    /// only error is `OutOfMemory`. The certificate certifies every subject that all the attestations are valid for, and its
+    /// encoding is read under the bound of its own committee, if each attestation can be encoded.
     fn assemble(
         &self,
         alloc: Global,
@@ -234,7 +235,10 @@ pub trait Scheme<D: Digest>: CertificateVerifier<D> {
         ensures made { IfOk result (λ certificate. made_of attestations.items certificate) }
         ensures certified { IfOk result (λ certificate. (subject : SubjectValue D) →
             All (λ a. good self.now subject a.signer a.signature ≡ true) attestations.items →
-            Self.certified self.now subject certificate ≡ true) };
+            Self.certified self.now subject certificate ≡ true) }
+        ensures readable { IfOk result (λ certificate.
+            All ⟦<Attestation<Self> as Encoding>⟧.is_value attestations.items →
+            Self.Certificate.fits (length (Self.keys self.now)) certificate) };
 
     /// The signer of a valid signature is in the committee.
     ghost members: { (scheme : Self) (subject : SubjectValue D) (signer : ℕ)
@@ -326,8 +330,8 @@ impl<S: SchemeTypes> MaxEncodeSize for Attestation<S> {
 pub type AttestationParts<'a> = (Participant, &'a [u8]);
 
 impl<S: SchemeTypes> Attestation<S> {
-    /// The parts of the attestation at the front of some bytes, if its signer's number has at most four bytes, and the bytes after
-    /// it. `None` only where the bytes are refused, or the number is longer. The signature is not copied.
+    /// The parts of the attestation at the front of some bytes, if its signer's number has at most four bytes, and the bytes
+    /// after it. `None` only where the bytes are refused, or the number is longer. The signature is not copied.
     #[inline(always)]
     pub fn short_parts(bytes: &[u8]) -> Option<(AttestationParts<'_>, &[u8])>
         ensures size { IfSome result (λ x. length x.0.1.now ≡ S.Signature.SIZE) }

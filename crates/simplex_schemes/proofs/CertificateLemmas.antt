@@ -13,7 +13,9 @@ use Rattle.std.proofs.lemmas.Map.Keys.{IsDistinct-IsPermutation, IsDistinct-from
 use Rattle.std.proofs.lemmas.Map.Made.{distinct_count-from_IsDistinct}
 use Rattle.std.proofs.lemmas.Map.Views.{length-le_from_below}
 use Rattle.simplex_scheme.specs.Committee.{IsInOrder, is_quorum, quorum_of, signers_of}
-use Rattle.simplex_schemes.specs.Listed.{AreListed, SignersAscend}
+use Rattle.simplex_base.specs.Format.{Format}
+use Rattle.simplex_scheme.specs.Attestation.{attestation_format}
+use Rattle.simplex_schemes.specs.Listed.{AreListed, ListedFits, SignersAscend}
 use Rattle.simplex_scheme.specs.declared.scheme.Attestation.{Attestation}
 
 -- a lower number is another one
@@ -78,6 +80,20 @@ module _ {S P G : Type 0} (given listed : List (Attestation S P G)) (order : IsI
         some = omega arith;
         few = omega (arith, length-map listed (λ a. a.signer));
         ascending = ascends_in_order;
+      }
+
+  -- if each can be encoded they fit the bound of their committee
+  pub fits_in_order : (n : ℕ) → 1 ≤ length given → n < 2 ^ 32 → All (λ a. a.signer < n) given → (signature : Format G) →
+      All (attestation_format {S = S} {P = P} signature).is_value given → ListedFits signature n listed
+  fits_in_order n some few members signature each =
+      let below = All-permutation (λ a. a.signer < n) given listed order.same members in
+      let upto = length-le_from_below n (signers_of listed) order.ascending
+      (All-map (λ signer. signer < n) (λ a. a.signer) listed below) in
+      record {
+        listed = listed_in_order n some few members;
+        count = omega (arith, length-map listed (λ a. a.signer));
+        below = below;
+        each = All-permutation (attestation_format {S = S} {P = P} signature).is_value given listed order.same each;
       }
 
   -- a quorum of valid attestations, in order, is a quorum

@@ -4,11 +4,14 @@
 
 ghost use Rattle.std.specs.Prelude.{◌≡◌, ℕ, Bool, true, length, nat_eq, All, Ok, IsOk, IfOk, ◌<◌, ◌≤◌};
 ghost use Rattle.std.specs.List.{IsDistinct, list_all};
+ghost use Rattle.simplex_base.specs.Format.{format_of};
 ghost use Rattle.simplex_scheme.specs.Subject.{SubjectValue, subject_value};
 ghost use Rattle.simplex_scheme.specs.Known.{AreValid};
 ghost use Rattle.simplex_scheme.specs.Committee.{IsInOrder, is_quorum, quorum_of, signers_of, RefusesFew};
+ghost use Rattle.simplex_schemes.specs.Listed.{ListedFits};
 
 use crate::listed::{Listed, Lists};
+use simplex_base::codec::{Encoding, Read};
 use simplex_scheme::scheme::{
     AssemblyError, Attestation, CertificateScheme, Digest, Known, NothingKnown, SchemeTypes,
     Subject, quorum,
@@ -120,6 +123,9 @@ pub fn assembled<S: CertificateScheme>(
     ensures certified { IfOk result (λ certificate. (good : ℕ → S.Signature → Bool) →
         All (λ a. good a.signer a.signature ≡ true) attestations.items →
         is_quorum (length (S.keys scheme.now)) good certificate ≡ true) }
+    ensures readable { IfOk result (λ certificate.
+        All ⟦<Attestation<S> as Encoding>⟧.is_value attestations.items →
+        ListedFits (format_of ⟦<S::Signature as Read>⟧) (length (S.keys scheme.now)) certificate) }
 {
     let quorum = quorum(scheme.participants().len() as u32);
     let count = attestations.len();

@@ -16,8 +16,8 @@ use crate::certificates::{
 };
 use crate::listed::listed_refusals_are_final;
 use crate::own::MarkedCertificate;
-use simplex_base::codec::Fixed;
 use simplex_base::codec::fixed_bytes::{FixedBytes, Role};
+use simplex_base::codec::{Encoding, Fixed, Read};
 use simplex_base::positions::Participant;
 use simplex_scheme::scheme::{
     AssemblyError, Attestation, CertificateScheme, CertificateVerifier, Digest, Known, Listing,
@@ -256,6 +256,9 @@ impl<D: Digest> Scheme<D> for Marked {
             true) attestations.items →
             is_quorum (length self.now.keys) (marked_good (length self.now.keys) subject)
             certificate ≡ true) }
+        ensures readable { IfOk result (λ certificate.
+            All ⟦<Attestation<Marked> as Encoding>⟧.is_value attestations.items →
+            ⟦<MarkedCertificate as Read>⟧.fits (length self.now.keys) certificate) }
     {
         Ok(MarkedCertificate(assembled(self, attestations)?))
     }

@@ -1,7 +1,7 @@
 //! The certificates of the schemes: each is a [`Listed`] with a type of its own, and is read and encoded as that.
 //!
-//! A bound at [`Listed`] asks for all that the types of its scheme have, and each trait of a certificate asks for it again. At a
-//! type of its own it asks for the trait alone, so what is proved at a scheme is proved sooner.
+//! A bound at [`Listed`] asks for all that the types of its scheme have, and each trait of a certificate asks for it again. At
+//! a type of its own it asks for the trait alone, so what is proved at a scheme is proved sooner.
 
 ghost use Rattle.std.specs.Prelude.{◌≡◌, true, refl};
 ghost use Rattle.simplex_base.specs.Format.{format_of};

@@ -25,7 +25,7 @@ use crate::hashed::{Hashers, hash_of_proposal, hash_of_round};
 use crate::listed::listed_refusals_are_final;
 use crate::own::PlainCertificate;
 use simplex_base::codec::fixed_bytes::{FixedBytes, Role};
-use simplex_base::codec::{Fixed, Read};
+use simplex_base::codec::{Encoding, Fixed, Read};
 use simplex_base::positions::{Participant, Round};
 use simplex_scheme::scheme::{
     AssemblyError, Attestation, CertificateScheme, CertificateVerifier, Digest, Known, Listing,
@@ -381,6 +381,9 @@ impl<D: Digest> Scheme<D> for Plain {
             true) attestations.items →
             is_quorum (length self.now.keys) (plain_good (format_of ⟦<D as Read>⟧) self.now subject)
             certificate ≡ true) }
+        ensures readable { IfOk result (λ certificate.
+            All ⟦<Attestation<Plain> as Encoding>⟧.is_value attestations.items →
+            ⟦<PlainCertificate as Read>⟧.fits (length self.now.keys) certificate) }
     {
         Ok(PlainCertificate(assembled(self, attestations)?))
     }

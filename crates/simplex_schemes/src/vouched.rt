@@ -20,8 +20,8 @@ use crate::certificates::{
 use crate::listed::listed_refusals_are_final;
 use crate::marked::{Marked, MarkedKey, MarkedKeyRole};
 use crate::own::VouchedCertificate;
-use simplex_base::codec::Fixed;
 use simplex_base::codec::fixed_bytes::{FixedBytes, Role};
+use simplex_base::codec::{Encoding, Fixed, Read};
 use simplex_base::positions::Participant;
 use simplex_scheme::scheme::{
     AssemblyError, Attestation, CertificateScheme, CertificateVerifier, Digest, Known, Listing,
@@ -223,6 +223,9 @@ impl<D: Digest, R: Role<N>, const N: usize> Scheme<D> for Vouched<R, N> {
             attestations.items →
             is_quorum (length self.now.keys) (vouched_valid self.now.keys subject) certificate ≡
             true) }
+        ensures readable { IfOk result (λ certificate.
+            All ⟦<Attestation<Vouched<R, N>> as Encoding>⟧.is_value attestations.items →
+            ⟦<VouchedCertificate<R, N> as Read>⟧.fits (length self.now.keys) certificate) }
     {
         Ok(VouchedCertificate(assembled(self, attestations)?))
     }

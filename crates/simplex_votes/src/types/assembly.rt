@@ -9,6 +9,7 @@ ghost use Rattle.simplex_votes.specs.Assembly.{CanAssemble};
 use crate::types::finalize::Finalize;
 use crate::types::notarize::Notarize;
 use crate::types::nullify::Nullify;
+use simplex_base::codec::Encoding;
 use simplex_base::positions::Round;
 use simplex_scheme::assembly::are_distinct;
 use simplex_scheme::scheme::{
@@ -160,6 +161,9 @@ pub fn assemble<S: Scheme<D>, D: Digest, V: Attested<S>>(
         All (λ v. S.good scheme.now subject (V.attestation_of v).signer
         (V.attestation_of v).signature ≡ true) votes.now →
         S.certified scheme.now subject certificate ≡ true) }
+    ensures readable { IfOk result (λ certificate.
+        All ⟦<Attestation<S> as Encoding>⟧.is_value (map V.attestation_of votes.now) →
+        S.Certificate.fits (length (S.keys scheme.now)) certificate) }
 {
     let quorum = quorum(scheme.participants().len() as u32);
     if votes.len() < quorum as usize {

@@ -12,7 +12,8 @@ use simplex_base::codec::{EncodeSize, Encoding, Error, Fixed, MaxEncodeSize, Rea
 use simplex_base::or_return;
 use simplex_base::positions::{Round, Roundable, View};
 use simplex_scheme::scheme::{
-    AssemblyError, CertificateScheme, CertificateVerifier, Digest, Proposal, Scheme, Subject,
+    AssemblyError, Attestation, CertificateScheme, CertificateVerifier, Digest, Proposal, Scheme,
+    Subject,
 };
 use std::alloc::{AllocError, Global};
 
@@ -111,6 +112,9 @@ impl<S: Scheme<D>, D: Digest> Finalization<S, D> {
             vote.attestation.signature ≡ true) votes.now →
             S.certified scheme.now (Finalizes finalization.proposal) finalization.certificate ≡
             true) }
+        ensures readable { IfOk result (λ finalization.
+            All ⟦<Attestation<S> as Encoding>⟧.is_value (map (λ vote. vote.attestation) votes.now) →
+            S.Certificate.fits (length (S.keys scheme.now)) finalization.certificate) }
     {
         match assemble(alloc, scheme, votes) {
             Ok(certificate) => Ok(Finalization {
@@ -139,6 +143,9 @@ impl<S: Scheme<D>, D: Digest> Finalization<S, D> {
             vote.attestation.signature ≡ true) votes.items →
             S.certified scheme.now (Finalizes finalization.proposal) finalization.certificate ≡
             true) }
+        ensures readable { IfOk result (λ finalization.
+            All ⟦<Attestation<S> as Encoding>⟧.is_value (map (λ vote. vote.attestation) votes.items) →
+            S.Certificate.fits (length (S.keys scheme.now)) finalization.certificate) }
     {
         Finalization::from_finalizes(alloc, scheme, votes.as_slice())
     }

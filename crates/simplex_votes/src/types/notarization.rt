@@ -12,7 +12,8 @@ use simplex_base::codec::{EncodeSize, Encoding, Error, Fixed, MaxEncodeSize, Rea
 use simplex_base::or_return;
 use simplex_base::positions::{Round, Roundable, View};
 use simplex_scheme::scheme::{
-    AssemblyError, CertificateScheme, CertificateVerifier, Digest, Proposal, Scheme, Subject,
+    AssemblyError, Attestation, CertificateScheme, CertificateVerifier, Digest, Proposal, Scheme,
+    Subject,
 };
 use std::alloc::{AllocError, Global};
 
@@ -111,6 +112,9 @@ impl<S: Scheme<D>, D: Digest> Notarization<S, D> {
             vote.attestation.signature ≡ true) votes.now →
             S.certified scheme.now (Notarizes notarization.proposal) notarization.certificate ≡
             true) }
+        ensures readable { IfOk result (λ notarization.
+            All ⟦<Attestation<S> as Encoding>⟧.is_value (map (λ vote. vote.attestation) votes.now) →
+            S.Certificate.fits (length (S.keys scheme.now)) notarization.certificate) }
     {
         match assemble(alloc, scheme, votes) {
             Ok(certificate) => Ok(Notarization {
@@ -139,6 +143,9 @@ impl<S: Scheme<D>, D: Digest> Notarization<S, D> {
             vote.attestation.signature ≡ true) votes.items →
             S.certified scheme.now (Notarizes notarization.proposal) notarization.certificate ≡
             true) }
+        ensures readable { IfOk result (λ notarization.
+            All ⟦<Attestation<S> as Encoding>⟧.is_value (map (λ vote. vote.attestation) votes.items) →
+            S.Certificate.fits (length (S.keys scheme.now)) notarization.certificate) }
     {
         Notarization::from_notarizes(alloc, scheme, votes.as_slice())
     }

@@ -12,7 +12,7 @@ use simplex_base::codec::{EncodeSize, Encoding, Error, MaxEncodeSize, Read, Writ
 use simplex_base::or_return;
 use simplex_base::positions::{Round, Roundable};
 use simplex_scheme::scheme::{
-    AssemblyError, CertificateScheme, CertificateVerifier, Digest, Scheme, Subject,
+    AssemblyError, Attestation, CertificateScheme, CertificateVerifier, Digest, Scheme, Subject,
 };
 use std::alloc::{AllocError, Global};
 
@@ -111,6 +111,9 @@ impl<S: CertificateScheme> Nullification<S> {
             vote.attestation.signature ≡ true) votes.now →
             S.certified scheme.now (Nullifies nullification.round) nullification.certificate ≡
             true) }
+        ensures readable { IfOk result (λ nullification.
+            All ⟦<Attestation<S> as Encoding>⟧.is_value (map (λ vote. vote.attestation) votes.now) →
+            S.Certificate.fits (length (S.keys scheme.now)) nullification.certificate) }
     {
         match assemble(alloc, scheme, votes) {
             Ok(certificate) => Ok(Nullification {
@@ -141,6 +144,9 @@ impl<S: CertificateScheme> Nullification<S> {
             vote.attestation.signature ≡ true) votes.items →
             S.certified scheme.now (Nullifies nullification.round) nullification.certificate ≡
             true) }
+        ensures readable { IfOk result (λ nullification.
+            All ⟦<Attestation<S> as Encoding>⟧.is_value (map (λ vote. vote.attestation) votes.items) →
+            S.Certificate.fits (length (S.keys scheme.now)) nullification.certificate) }
     {
         Nullification::from_nullifies(alloc, scheme, votes.as_slice())
     }
