@@ -2,6 +2,7 @@
 
 ghost use Rattle.std.specs.Prelude.{[], ◌∷◌, IfOk, OnOk};
 ghost use Rattle.simplex_alarm.specs.Alarm.{SoundsFrom, SoundsMore, SoundsNone, SoundsNoted, SoundsUntold};
+ghost use Rattle.simplex_ballots.specs.Kept.{is_kept};
 ghost use Rattle.simplex_detector.specs.Detector.{RecallsMore, TellsNews};
 ghost use Rattle.simplex_detector.specs.Gathered.{TellsKept};
 ghost use Rattle.simplex_rules.specs.Rules.{Rules};
@@ -87,6 +88,9 @@ impl<S: Listing<D>, D: Digest> Alarm<S, D> {
         ensures records { OnOk result (RecallsMore
             (⟦<S as Judges<D>>⟧.rules_under judging.now committees.now)
             (message.now ∷ []) detector.old detector.new) }
+        ensures news { IfOk result (λ kept. TellsNews
+            (⟦<S as Judges<D>>⟧.rules_under judging.now committees.now) message.now detector.old
+            (is_kept kept)) }
         ensures kept { IfOk result (λ kept. TellsKept
             (⟦<S as Judges<D>>⟧.rules_under judging.now committees.now) message.now detector.old kept) }
         ensures sounds { OnOk result (SoundsMore

@@ -3,6 +3,8 @@
 ghost use Rattle.std.specs.Prelude.{nat_eq, refl, ◌&&◌};
 
 use crate::answer::ReportSummary;
+use crate::refusals::Refusal;
+use crate::signatures::VouchedSize;
 use simplex_base::values::{EqByParts, ExactClone, InfallibleClone};
 
 impl ExactClone for ReportSummary {
@@ -19,4 +21,20 @@ impl EqByParts for ReportSummary {
         (nat_eq x.fault_place y.fault_place && nat_eq x.length y.length)))) };
 
     ghost equal = { λ x y. refl };
+}
+
+impl ExactClone for Refusal {
+    ghost exact = { λ x y same. same };
+}
+
+impl InfallibleClone for Refusal {
+    ghost infallible = { λ _. tt };
+}
+
+impl ExactClone for VouchedSize {
+    ghost exact = { λ x y same. same };
+}
+
+impl InfallibleClone for VouchedSize {
+    ghost infallible = { λ _. tt };
 }

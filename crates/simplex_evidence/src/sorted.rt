@@ -74,6 +74,7 @@ impl<T: Keyed> SortedList<T> {
             (IsSome (item_of T.key_of self.now key) ×
             (slice_get self.now place ≡ item_of T.key_of self.now key))) }
         ensures none { OnErr result (item_of T.key_of self.now key ≡ None) }
+        ensures gap { IfErr result (IsGap T.key_of self.now key) }
     {
         place_of(&self.items, near, key)
     }

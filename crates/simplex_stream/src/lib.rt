@@ -2,8 +2,8 @@
 //!
 //! [`messages`] has the loop, [`messages::for_each_message`], which reads messages of any type ([`messages::Message`]) one
 //! after another and shows each to a [`messages::Visitor`]; what most of them are is read and shown at once, by
-//! [`messages::Show`]. [`fault`] has where a stream stops being messages. A [`decoder::Decoder`] does the same for a stream that
-//! comes in pieces.
+//! [`messages::Show`]. [`fault`] has where a stream stops being messages. A [`decoder::Decoder`] does the same for a stream
+//! that comes in pieces.
 //!
 //! What reads streams in [`pieces`] and writes a [`text`] of them rests on readers and writers that remember failures,
 //! [`watched`], and fails with a [`run_error::RunError`].

@@ -39,7 +39,8 @@ pub fn read_some<R: Read>(reader: &mut Watched<R>, piece: &mut [u8]) -> Result<u
     }
 }
 
-/// Reads until the piece is full or a read returns 0. Returns how many bytes were read.
+/// Reads until the piece is full or a read returns 0. Returns how many bytes were read. After an error fewer bytes than the
+/// piece has were consumed.
 pub fn fill<R: Read>(reader: &mut Watched<R>, piece: &mut [u8]) -> Result<usize, RunError>
     requires { has_failed reader.old ≡ false }
     ensures within { IfOk result (λ count. count ≤ length piece.new) }
@@ -48,6 +49,8 @@ pub fn fill<R: Read>(reader: &mut Watched<R>, piece: &mut [u8]) -> Result<usize,
         (take count piece.new)) }
     ensures end { IfOk result (λ count. count < length piece.new →
         IsAtEnd (R.remaining (inner_of reader.new))) }
+    ensures kept { OnErr result ((bytes : List ℕ) × (length bytes < length piece.new) ×
+        Consumes (R.remaining (inner_of reader.old)) (R.remaining (inner_of reader.new)) bytes) }
     ensures failed { IsTrue (has_failed reader.new) ↔ (result ≡ Err RunError.Read) }
     ensures error { IfErr result (λ e. e ≡ RunError.Read) }
 {

@@ -26,3 +26,8 @@ returns-clause-none g c =
       | Err place ↦ λ gap. subst (λ xs. item_of key_of xs c.args.key ≡ None) (c.deref.ensures.value ∙ c.self.view_is)
           (item_in_gap key_of c.deref.result.now c.args.key place gap)
     ]) c.place_of.ensures.gap
+
+pub returns-clause-gap : goal.returns-clause-gap
+returns-clause-gap g c =
+    subst (λ xs. IfErr c.place_of.result (IsGap g.T.Keyed.key_of xs c.args.key)) (c.deref.ensures.value ∙ c.self.view_is)
+    c.place_of.ensures.gap
