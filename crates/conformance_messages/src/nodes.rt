@@ -70,8 +70,7 @@ pub(crate) fn resolved<S: Scheme<D>, D: Digest>(
     let selected = resolve(alloc, scheme, items.as_slice())?;
     let mut text = "kept".to_string(alloc)?;
     for place in 0..selected.len() {
-        text.push_str(" ")?;
-        text.push_str(text_of(alloc, &selected[place].0)?.as_str())?;
+        push_subject(&mut text, alloc, &selected[place].0)?;
     }
     Ok(text)
 }
@@ -84,10 +83,15 @@ fn item_of<'a, S: Scheme<D>, D: Digest>(
     (Subject::Notarize { proposal }, &message.certificate)
 }
 
-/// A subject, as its message encodes it.
-fn text_of<D: Digest>(alloc: Global, subject: &Subject<'_, D>) -> Result<String, AllocError> {
+/// Appends a blank, and a subject as its message encodes it.
+fn push_subject<D: Digest>(
+    text: &mut String,
+    alloc: Global,
+    subject: &Subject<'_, D>,
+) -> Result<(), AllocError> {
     let message = subject.message(alloc)?;
-    hex::encode(alloc, message.as_slice())
+    text.push_str(" ")?;
+    text.push_str(hex::encode(alloc, message.as_slice())?.as_str())
 }
 
 /// What a voter returns for a view: whether it takes votes of the view, whether a node that has certified view `certified`

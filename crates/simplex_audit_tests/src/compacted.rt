@@ -68,30 +68,61 @@ fn round(view: u64) -> Round {
     Round::new(Epoch::new(0), View::new(view))
 }
 
-/// The compactions of the logs are compacted to what the logs are compacted to. The audit of what is kept is that of the
-/// stream. From a later round on nothing is kept.
-fn check<S: Listing<D>, D: Digest>(
-    rt: &impl Abort,
+/// The compactions of the logs, each of its own, one after the other.
+fn compactions<S: Listing<D>, D: Digest>(
     alloc: Global,
     committees: &Committees<S>,
-) -> Result<(), Fail> {
+) -> Result<Vec<u8>, Fail> {
     let mut each = Vec::new(alloc);
     for log in [FIRST, SECOND, THIRD] {
         let kept = compact::<S, D>(alloc, committees, log, round(0))?;
         each.extend_from_slice(kept.messages.as_slice())?;
     }
+    Ok(each)
+}
+
+/// A stream is compacted to what is news in the logs.
+fn keep<S: Listing<D>, D: Digest>(
+    rt: &impl Abort,
+    alloc: Global,
+    committees: &Committees<S>,
+    stream: &[u8],
+) -> Result<(), Fail> {
+    let compaction = compact::<S, D>(alloc, committees, stream, round(10))?;
+    assert!(rt; compaction.messages.as_slice() == KEPT, "of {stream:?}");
+    let audited = outcome_of::<S, D>(alloc, committees, stream)?;
+    assert_eq!(rt; compaction.read, audited.read, "of {stream:?}");
+    assert_eq!(rt; compaction.fault, audited.fault, "of {stream:?}");
+    Ok(())
+}
+
+/// The audit of what is kept is that of a stream, of which nothing is kept from a later round on.
+fn audit_kept<S: Listing<D>, D: Digest>(
+    rt: &impl Abort,
+    alloc: Global,
+    committees: &Committees<S>,
+    stream: &[u8],
+) -> Result<(), Fail> {
+    let audited = outcome_of::<S, D>(alloc, committees, stream)?;
+    let kept = outcome_of::<S, D>(alloc, committees, KEPT)?;
+    assert_eq!(rt; kept.text, audited.text, "of {stream:?}");
+    let later = compact::<S, D>(alloc, committees, stream, round(11))?;
+    assert!(rt; later.messages.is_empty() && later.read == audited.read);
+    Ok(())
+}
+
+/// The logs, whole and cut, and what they and their compactions are compacted to are all compacted to the same.
+fn check<S: Listing<D>, D: Digest>(
+    rt: &impl Abort,
+    alloc: Global,
+    committees: &Committees<S>,
+) -> Result<(), Fail> {
+    let each = compactions::<S, D>(alloc, committees)?;
     let logs = joined(alloc, &[FIRST, SECOND, THIRD])?;
     let cut = joined(alloc, &[FIRST, SECOND, THIRD, &[0, 0, 10]])?;
     for stream in [logs.as_slice(), each.as_slice(), cut.as_slice(), KEPT] {
-        let audited = outcome_of::<S, D>(alloc, committees, stream)?;
-        let compaction = compact::<S, D>(alloc, committees, stream, round(10))?;
-        assert!(rt; compaction.messages.as_slice() == KEPT, "of {stream:?}");
-        assert_eq!(rt; compaction.read, audited.read, "of {stream:?}");
-        assert_eq!(rt; compaction.fault, audited.fault, "of {stream:?}");
-        let kept = outcome_of::<S, D>(alloc, committees, compaction.messages.as_slice())?;
-        assert_eq!(rt; kept.text, audited.text, "of {stream:?}");
-        let later = compact::<S, D>(alloc, committees, stream, round(11))?;
-        assert!(rt; later.messages.is_empty() && later.read == audited.read);
+        keep::<S, D>(rt, alloc, committees, stream)?;
+        audit_kept::<S, D>(rt, alloc, committees, stream)?;
     }
     Ok(())
 }

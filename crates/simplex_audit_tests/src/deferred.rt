@@ -36,21 +36,43 @@ fn fed_batch<S: Listing<D>, D: Digest>(
     Ok(ledger.feed(BATCH)?.store(alloc)?)
 }
 
-/// A deferred audit and `store_batch` return what an audit and a ledger do.
+/// A deferred audit returns what an audit does.
+fn audit<S: Listing<D>, D: Digest>(
+    rt: &impl Abort,
+    alloc: Global,
+    committees: &Committees<S>,
+    stream: &[u8],
+) -> Result<(), Fail> {
+    let found = deferred_outcome_of::<S, D>(alloc, committees, stream)?;
+    let wanted = outcome_of::<S, D>(alloc, committees, stream)?;
+    assert_eq!(rt; found, wanted, "of {stream:?}");
+    Ok(())
+}
+
+/// `store_batch` returns what a ledger does.
+fn store<S: Listing<D>, D: Digest>(
+    rt: &impl Abort,
+    alloc: Global,
+    committees: &Committees<S>,
+    stored: &[u8],
+) -> Result<(), Fail> {
+    let wanted = fed_batch::<S, D>(alloc, committees, stored)?;
+    let found = store_batch::<S, D>(alloc, committees, stored, BATCH)?;
+    assert_eq!(rt; found, wanted, "after {stored:?}");
+    Ok(())
+}
+
+/// Streams are audited at once and deferred, and batches are stored both ways.
 fn check<S: Listing<D>, D: Digest>(
     rt: &impl Abort,
     alloc: Global,
     committees: &Committees<S>,
 ) -> Result<(), Fail> {
     for stream in [STORED, BATCH, b"".as_slice()] {
-        let found = deferred_outcome_of::<S, D>(alloc, committees, stream)?;
-        let wanted = outcome_of::<S, D>(alloc, committees, stream)?;
-        assert_eq!(rt; found, wanted, "of {stream:?}");
+        audit::<S, D>(rt, alloc, committees, stream)?;
     }
     for stored in [b"".as_slice(), STORED] {
-        let wanted = fed_batch::<S, D>(alloc, committees, stored)?;
-        let found = store_batch::<S, D>(alloc, committees, stored, BATCH)?;
-        assert_eq!(rt; found, wanted, "after {stored:?}");
+        store::<S, D>(rt, alloc, committees, stored)?;
     }
     Ok(())
 }

@@ -61,20 +61,32 @@ fn fed_on<'a>(
     Ok(listener.feed(piece)?)
 }
 
-/// Feeds the messages, one piece each, and panics unless what arises is told once, behind the message that completes it.
+/// Feeds the messages, one piece each, and adds what each tells.
+fn tell_all(
+    alloc: Global,
+    committees: &Committees<Marked>,
+    messages: &[&[u8]],
+    told: &mut Vec<Told>,
+    splits: &mut Vec<ToldSplit>,
+) -> Result<(), Fail> {
+    let mut listener = Listener::<Marked, MarkedDigest>::new(alloc, committees);
+    for place in 0..messages.len() {
+        listener = fed_on(listener, messages[place])?;
+        add(told, splits, place, &listener.news())?;
+    }
+    Ok(())
+}
+
+/// Panics unless what arises is told once, behind the message that completes it.
 fn tell(
     rt: &impl Abort,
     alloc: Global,
     committees: &Committees<Marked>,
     messages: &[&[u8]],
 ) -> Result<(), Fail> {
-    let mut listener = Listener::<Marked, MarkedDigest>::new(alloc, committees);
     let mut told = Vec::new(alloc);
     let mut splits = Vec::new(alloc);
-    for place in 0..messages.len() {
-        listener = fed_on(listener, messages[place])?;
-        add(&mut told, &mut splits, place, &listener.news())?;
-    }
+    tell_all(alloc, committees, messages, &mut told, &mut splits)?;
     let expected: &[Told] = &[
         (1, 1, EquivocationKind::ConflictingNotarize),
         (4, 2, EquivocationKind::NullifyFinalize),
@@ -99,20 +111,22 @@ fn feed_all<'a>(
     Ok(listener)
 }
 
+/// How much evidence and how many splits are news.
+fn counts(listener: &mut Listener<'_, Marked, MarkedDigest>) -> (usize, usize) {
+    let news = listener.news();
+    (news.evidence.len(), news.splits.len())
+}
+
 /// Panics unless what is below a floor is not told any more.
 fn prune(rt: &impl Abort, alloc: Global, committees: &Committees<Marked>) -> Result<(), Fail> {
     let mut listener = feed_all(Listener::new(alloc, committees))?;
     listener.prune(Round::new(Epoch::new(0), View::new(9)));
-    let news = listener.news();
-    assert_eq!(rt; news.evidence.len(), 5);
-    assert_eq!(rt; news.splits.len(), 2);
+    assert_eq!(rt; counts(&mut listener), (5, 2));
     let mut listener = feed_all(listener)?;
-    assert_eq!(rt; listener.news().evidence.len(), 0);
-    assert_eq!(rt; listener.news().splits.len(), 0);
+    assert_eq!(rt; counts(&mut listener), (0, 0));
     listener.prune(Round::new(Epoch::new(0), View::new(10)));
     let mut listener = feed_all(listener)?;
-    assert_eq!(rt; listener.news().evidence.len(), 0);
-    assert_eq!(rt; listener.news().splits.len(), 0);
+    assert_eq!(rt; counts(&mut listener), (0, 0));
     Ok(())
 }
 

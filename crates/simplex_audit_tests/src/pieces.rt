@@ -4,7 +4,7 @@
 ghost use Rattle.std.specs.Prelude.{◌+◌, ◌<◌, ◌^◌, length};
 
 use crate::outcome::marked;
-use simplex_audit::audit::{Auditor, audit};
+use simplex_audit::audit::{Auditor, Committees, audit};
 use simplex_schemes::marked::{Marked, MarkedDigest};
 use std::alloc::Global;
 use std::process::Abort;
@@ -35,6 +35,35 @@ fn stream(alloc: Global) -> Result<Vec<u8>, Fail> {
     Ok(bytes)
 }
 
+/// The auditor that was fed a piece more.
+fn fed_on<'a>(
+    auditor: Auditor<'a, Marked, MarkedDigest>,
+    piece: &[u8],
+) -> Result<Auditor<'a, Marked, MarkedDigest>, Fail> {
+    if piece.len() > usize::MAX - auditor.fed() {
+        return Err("too many bytes".into());
+    }
+    Ok(auditor.feed(piece)?)
+}
+
+/// Panics unless the report is that of an audit of what was fed.
+fn compare(
+    rt: &impl Abort,
+    alloc: Global,
+    committees: &Committees<Marked>,
+    auditor: &Auditor<'_, Marked, MarkedDigest>,
+    bytes: &[u8],
+) -> Result<(), Fail> {
+    let found = auditor.report()?;
+    let whole = audit::<Marked, MarkedDigest>(alloc, committees, bytes)?;
+    assert!(rt;
+        found.read == whole.read && found.fault == whole.fault,
+        "{} bytes",
+        bytes.len()
+    );
+    Ok(())
+}
+
 /// Feeds the stream in pieces of `size` bytes. After each multiple of `step` bytes it compares a report with the audit of what
 /// was fed.
 fn check(rt: &impl Abort, alloc: Global, size: usize, step: usize) -> Result<(), Fail>
@@ -45,18 +74,10 @@ fn check(rt: &impl Abort, alloc: Global, size: usize, step: usize) -> Result<(),
     let bytes = stream(alloc)?;
     let mut auditor = Auditor::<Marked, MarkedDigest>::new(alloc, &committees);
     for piece in bytes.chunks(size) {
-        if piece.len() > usize::MAX - auditor.fed() {
-            return Err("too many bytes".into());
-        }
-        auditor = auditor.feed(piece)?;
+        auditor = fed_on(auditor, piece)?;
         let fed = auditor.fed();
         if fed % step == 0 && fed <= bytes.len() {
-            let found = auditor.report()?;
-            let whole = audit::<Marked, MarkedDigest>(alloc, &committees, &bytes[..fed])?;
-            assert!(rt;
-                found.read == whole.read && found.fault == whole.fault,
-                "{fed} by {size}"
-            );
+            compare(rt, alloc, &committees, &auditor, &bytes[..fed])?;
         }
     }
     let report = auditor.report()?;

@@ -8,6 +8,7 @@ use simplex_audit::audit::{Committees, audit};
 use simplex_base::codec::fixed_bytes::{FixedBytes, Role};
 use simplex_base::codec::{Write, decode, decode_cfg};
 use simplex_base::positions::{Epoch, Participant, Round, View};
+use simplex_rules::evidence::Evidence;
 use simplex_scheme::scheme::{Attestation, CertificateScheme, Digest, Listing, Subject};
 use simplex_schemes::marked::MarkedDigest;
 use simplex_schemes::vouched::Vouched;
@@ -46,11 +47,28 @@ fn ample_payloads_of_48_bytes(rt: HostRuntime) -> Result<(), Fail> {
     }
     stream.extend_from_slice(&[3, 0, 10, 1, 1])?;
     let found = outcome_of::<Committee, FixedBytes<Long, 48>>(alloc, &committees, &stream)?;
-    let two = format!(in alloc; "5 {BYTES}fe 5 {BYTES}ff")?;
-    let mut wanted = format!(in alloc; "0 10 1 conflicting-notarize {two}\n")?;
-    wanted.push_str(format!(in alloc; "0 10 1 conflicting-finalize {two}\n")?.as_str())?;
-    wanted.push_str(format!(in alloc; "0 10 1 nullify-finalize 5 {BYTES}fe\n")?.as_str())?;
-    assert_eq!(rt; found.text, wanted);
+    assert_eq!(rt; found.text, lines(alloc)?);
+    Ok(())
+}
+
+/// The lines of the two notarizes, the two finalizes, and the nullify and the first finalize.
+fn lines(alloc: Global) -> Result<String, AllocError> {
+    let mut lines = String::new(alloc);
+    for word in ["conflicting-notarize", "conflicting-finalize"] {
+        push_all(
+            &mut lines,
+            &["0 10 1 ", word, " 5 ", BYTES, "fe 5 ", BYTES, "ff\n"],
+        )?;
+    }
+    push_all(&mut lines, &["0 10 1 nullify-finalize 5 ", BYTES, "fe\n"])?;
+    Ok(lines)
+}
+
+/// Appends texts, one after another.
+fn push_all(text: &mut String, parts: &[&str]) -> Result<(), AllocError> {
+    for part in parts {
+        text.push_str(part)?;
+    }
     Ok(())
 }
 
@@ -76,27 +94,41 @@ fn certificate(alloc: Global, first: u32, count: u32) -> Result<Vec<u8>, AllocEr
     Ok(bytes)
 }
 
+/// Two notarizations of view 10, by the first quorum and by the last.
+fn two_quorums(alloc: Global) -> Result<Vec<u8>, AllocError> {
+    let mut stream = Vec::new(alloc);
+    for (payload, first) in [(6, 0), (7, PARTICIPANTS - QUORUM)] {
+        stream.extend_from_slice(&[1, 0, 10, 5, payload])?;
+        stream.extend_from_slice(&certificate(alloc, first, QUORUM)?)?;
+    }
+    Ok(stream)
+}
+
+/// Whether the evidence accuses the participants from this one on, one after the other.
+fn are_from(found: &[Evidence<Committee, MarkedDigest>], first: u32) -> bool {
+    let mut signer = first;
+    for evidence in found {
+        if evidence.signer().get() != signer {
+            return false;
+        }
+        signer = signer.saturating_add(1);
+    }
+    true
+}
+
 /// Two quorums of 65,536 participants, the last of them in the second, accuse exactly those in both, f + 1 of them. A body that
 /// counts participants in 16 bits is refused.
 #[test]
 fn ample_two_large_quorums(rt: HostRuntime) -> Result<(), Fail> {
     let alloc = rt.alloc();
     let committees = Committees::every(large(alloc)?);
-    let mut stream = Vec::new(alloc);
-    for (payload, first) in [(6, 0), (7, PARTICIPANTS - QUORUM)] {
-        stream.extend_from_slice(&[1, 0, 10, 5, payload])?;
-        stream.extend_from_slice(&certificate(alloc, first, QUORUM)?)?;
-    }
+    let stream = two_quorums(alloc)?;
     let report = audit::<Committee, MarkedDigest>(alloc, &committees, &stream)?;
     assert_eq!(rt;
         (report.read, report.evidence.len(), report.splits.len()),
         (2, 21_846, 1)
     );
-    let mut signer: u32 = 21_845;
-    for evidence in &report.evidence {
-        assert_eq!(rt; evidence.signer().get(), signer);
-        signer = signer.saturating_add(1);
-    }
+    assert!(rt; are_from(report.evidence.as_slice(), 21_845));
     let split = report.splits.first().ok_or("no split")?.line(alloc)?;
     assert_eq!(rt; split.as_str(), "0 10 split 21846 21846");
     Ok(())

@@ -142,11 +142,19 @@ fn check<C: Config<Marked>>(
         None => Terms::rotating(),
     };
     assert!(rt; elector.mode() == mode && elector.terms() == terms);
+    assert!(rt; first_other(&elector, order).is_none());
+    Ok(())
+}
+
+/// The first view of epoch 0 that is not led in this order.
+fn first_other<E: Elector<Marked>>(elector: &E, order: &[u32]) -> Option<u64> {
     for (view, leader) in (0_u64..).zip(order) {
         let round = Round::new(Epoch::new(0), View::new(view));
-        assert!(rt; elector.elect(round, None).get() == *leader, "view {view}");
+        if elector.elect(round, None).get() != *leader {
+            return Some(view);
+        }
     }
-    Ok(())
+    None
 }
 
 /// With this hasher the committee of five leads the first six views in this order.
@@ -180,7 +188,11 @@ fn by_digest(alloc: Global, seed: &[u8], participants: u32) -> Result<Vec<u32>, 
         order.push((digest, number))?;
     }
     order.sort_unstable();
-    order.into_iter().map(|(_, number)| number).collect(alloc)
+    let mut numbers = Vec::new(alloc);
+    for (_, number) in order {
+        numbers.push(number)?;
+    }
+    Ok(numbers)
 }
 
 /// The order in which the committee of ten leads with a seed, which is that of the digests.
@@ -250,10 +262,19 @@ fn without_memory_rotation(rt: HostRuntime) -> Result<(), Fail> {
     let (length, second) = (TermLength::new(20), Duration::from_secs(1));
     assert!(rt; can_be_stable(length, second));
     let rotation = RoundRobin::<Sha256>::default().with_term(length, second, ViewDelta::new(2));
-    let elector = Config::<Marked>::build(rotation.clone()?, rt.alloc(), four.participants())?;
-    let terms = Elector::<Marked>::terms(&elector.clone()?);
+    let terms = terms_of(rt.alloc(), &rotation, &four)?;
     assert!(rt; terms == Terms::stable(length, second, ViewDelta::new(2)));
     Ok(())
+}
+
+/// The terms of a copy of the elector that a copy of the rotation builds.
+fn terms_of(
+    alloc: Global,
+    rotation: &RoundRobin<Sha256>,
+    four: &Marked,
+) -> Result<Terms, AllocError> {
+    let elector = Config::<Marked>::build(rotation.clone()?, alloc, four.participants())?;
+    Ok(Elector::<Marked>::terms(&elector.clone()?))
 }
 
 /// The elector of the most participants is made without an allocation if there is no seed.

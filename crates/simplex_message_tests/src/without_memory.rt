@@ -356,12 +356,17 @@ fn without_memory_schemes(rt: HostRuntime) -> Result<(), Fail> {
     Ok(())
 }
 
+/// The third of the plain scheme's participants.
+fn third_of_four(alloc: Global) -> Result<Plain, Fail> {
+    let keys = four_keys(alloc).ok_or("no keys")?;
+    Ok(Plain::signer(alloc, b"test", keys, &key(2))?.ok_or("nobody")?)
+}
+
 /// As [`without_memory_schemes`], of the plain scheme.
 #[test]
 fn without_memory_plain_schemes(rt: HostRuntime) -> Result<(), Fail> {
     let alloc = rt.alloc();
-    let keys = four_keys(alloc).ok_or("no keys")?;
-    let third = Plain::signer(alloc, b"test", keys, &key(2))?.ok_or("nobody")?;
+    let third = third_of_four(alloc)?;
     let nobody = plain(alloc).ok_or("no committee")?;
     let mut encoding = [0; 67];
     encoding[0] = 2;
@@ -544,6 +549,17 @@ fn key_of_zeros(alloc: Global) -> Result<Set<PlainKey>, Fail>
     Ok(keys)
 }
 
+/// The one participant of its committee.
+fn signer_of_zeros(alloc: Global) -> Result<Plain, Fail> {
+    let own = PlainKey::from_bytes(&[0; 32]);
+    Ok(Plain::signer(alloc, b"test", key_of_zeros(alloc)?, &own)?.ok_or("nobody")?)
+}
+
+/// Its committee, of which it is no participant.
+fn nobody_of_zeros(alloc: Global) -> Result<Plain, Fail> {
+    Ok(Plain::verifier(alloc, b"test", key_of_zeros(alloc)?)?)
+}
+
 /// As [`is_certified_twice`], by the plain scheme.
 fn is_plain_certified_twice(
     scheme: &Plain,
@@ -564,7 +580,7 @@ const PLAIN_CERTIFICATE: &str =
 #[test]
 fn without_memory_plain_twice(rt: HostRuntime) -> Result<(), Fail> {
     let alloc = rt.alloc();
-    let nobody = Plain::verifier(alloc, b"test", key_of_zeros(alloc)?)?;
+    let nobody = nobody_of_zeros(alloc)?;
     let encoding = hex::decode(alloc, PLAIN_CERTIFICATE)?;
     let certificate = decode_cfg::<PlainCertificate>(alloc, encoding.as_slice(), &1)?;
     let _ = is_out(alloc);
@@ -576,9 +592,7 @@ fn without_memory_plain_twice(rt: HostRuntime) -> Result<(), Fail> {
 #[test]
 fn without_memory_plain(rt: HostRuntime) -> Result<(), Fail> {
     let alloc = rt.alloc();
-    let own = PlainKey::from_bytes(&[0; 32]);
-    let me = Plain::signer(alloc, b"test", key_of_zeros(alloc)?, &own)?.ok_or("nobody")?;
-    let nobody = Plain::verifier(alloc, b"test", key_of_zeros(alloc)?)?;
+    let (me, nobody) = (signer_of_zeros(alloc)?, nobody_of_zeros(alloc)?);
     let payload = Sha256Digest::from_bytes(&[6; 32]);
     assert!(rt; is_quorum_alone(alloc, &me, &nobody, payload)?);
     Ok(())

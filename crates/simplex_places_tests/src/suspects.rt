@@ -86,6 +86,21 @@ fn ample(rt: HostRuntime) -> Result<(), Fail> {
     Ok(())
 }
 
+/// The stream with this verdict for all attestations, but for those of suspects, which have their own.
+fn filled(
+    alloc: Global,
+    committees: &Committees<Committee>,
+    stream: &[u8],
+    verified: &[u8],
+    verdict: u8,
+) -> Result<Vec<u8>, Fail> {
+    let mut filled = with_verdicts(alloc, stream, verdict)?;
+    for place in &found(alloc, committees, &filled)? {
+        copy_verdict(verified, &mut filled, place.verdict_place);
+    }
+    Ok(filled)
+}
+
 #[test]
 fn ample_no_other_verdict_is_in_the_report(rt: HostRuntime) -> Result<(), Fail> {
     let alloc = rt.alloc();
@@ -97,12 +112,9 @@ fn ample_no_other_verdict_is_in_the_report(rt: HostRuntime) -> Result<(), Fail> 
             let verified = with_verdicts(alloc, &stream, 1)?;
             let wanted = outcome(alloc, &committees, &verified)?;
             for verdict in [0, 1] {
-                let mut filled = with_verdicts(alloc, &stream, verdict)?;
-                for place in &found(alloc, &committees, &filled)? {
-                    copy_verdict(&verified, &mut filled, place.verdict_place);
-                }
+                let filled = filled(alloc, &committees, &stream, &verified, verdict)?;
                 let got = outcome(alloc, &committees, &filled)?;
-                assert_eq!(rt; got, wanted, "of {stream:?} with {verdict}");
+                assert!(rt; got == wanted, "of {stream:?} with {verdict}");
             }
         }
     }

@@ -106,6 +106,26 @@ fn verified_in_pieces(
     verified(&committees)
 }
 
+/// How many messages an audit reads, and how much evidence it finds.
+fn audited(
+    alloc: Global,
+    committees: &Committees<Counted>,
+    stream: &[u8],
+) -> Result<(usize, usize), Fail> {
+    let report = audit::<Counted, MarkedDigest>(alloc, committees, stream)?;
+    Ok((report.read, report.evidence.len()))
+}
+
+/// How many messages a deferred audit reads, and how much evidence it finds.
+fn audited_deferred(
+    alloc: Global,
+    committees: &Committees<Counted>,
+    stream: &[u8],
+) -> Result<(usize, usize), Fail> {
+    let report = audit_deferred::<Counted, MarkedDigest>(alloc, committees, stream)?;
+    Ok((report.read, report.evidence.len()))
+}
+
 /// How many attestations an audit of a stream of this many messages verifies, and how many a deferred one does. A run, and an
 /// auditor that is fed the stream in pieces, verify as many as the audit.
 fn counts(
@@ -115,10 +135,8 @@ fn counts(
     messages: usize,
 ) -> Result<(usize, usize), Fail> {
     let (whole, deferred) = (four(rt, alloc)?, four(rt, alloc)?);
-    let report = audit::<Counted, MarkedDigest>(alloc, &whole, stream)?;
-    assert_eq!(rt; report.read, messages);
-    let report = audit_deferred::<Counted, MarkedDigest>(alloc, &deferred, stream)?;
-    assert_eq!(rt; report.read, messages);
+    assert_eq!(rt; audited(alloc, &whole, stream)?.0, messages);
+    assert_eq!(rt; audited_deferred(alloc, &deferred, stream)?.0, messages);
     let wanted = verified(&whole)?;
     assert_eq!(rt; verified_by_run(rt, alloc, stream)?, wanted, "by a run");
     for length in [1, 5] {
@@ -229,30 +247,50 @@ fn stored_counts(
     Ok((summary.read, summary.evidence))
 }
 
+/// How many bytes a stream stores that comes as a batch.
+fn stored_bytes(
+    alloc: Global,
+    committees: &Committees<Counted>,
+    stream: &[u8],
+) -> Result<usize, Fail> {
+    Ok(store_batch::<Counted, MarkedDigest>(alloc, committees, &[], stream)?.len())
+}
+
+/// Nothing is verified of it by a deferred audit, as a batch, or as a stored stream.
 #[test]
 fn ample_nothing_of_an_honest_stream_is_verified(rt: HostRuntime) -> Result<(), Fail> {
     let alloc = rt.alloc();
     let committees = four(&rt, alloc)?;
+    let stream = honest(alloc)?;
+    assert_eq!(rt; audited_deferred(alloc, &committees, &stream)?, (12_500, 0));
+    assert_eq!(rt; stored_bytes(alloc, &committees, &stream)?, 0);
+    assert_eq!(rt; stored_counts(alloc, &committees, &stream)?, (12_500, 0));
+    assert_eq!(rt; verified(&committees)?, 0);
+    Ok(())
+}
+
+/// An audit verifies each vote once, and no certificate, since it lists recorded votes. A run reads 65,536 bytes at a time,
+/// and a vote lies across the first two of these pieces.
+#[test]
+fn ample_votes_of_an_honest_stream_are_verified_once(rt: HostRuntime) -> Result<(), Fail> {
+    let alloc = rt.alloc();
+    let stream = honest(alloc)?;
+    let longer = stream_of(alloc, &[NULLIFY, &stream])?;
+    assert_eq!(rt; counts(&rt, alloc, &longer, 12_501)?, (10_001, 0));
+    Ok(())
+}
+
+/// One vote that contradicts has its signer's votes and the certificate of its round verified.
+#[test]
+fn ample_votes_of_one_who_contradicts_are_verified(rt: HostRuntime) -> Result<(), Fail> {
+    let alloc = rt.alloc();
+    let committees = four(&rt, alloc)?;
     let mut stream = honest(alloc)?;
-    let report = audit_deferred::<Counted, MarkedDigest>(alloc, &committees, stream.as_slice())?;
-    assert_eq!(rt; (report.read, report.evidence.len()), (12_500, 0));
-    // Nor is anything verified where the stream comes as a batch.
-    let stored = store_batch::<Counted, MarkedDigest>(alloc, &committees, &[], stream.as_slice())?;
-    assert_eq!(rt; (stored.len(), verified(&committees)?), (0, 0));
-    // Nor where it is a stored stream.
-    let counted = stored_counts(alloc, &committees, stream.as_slice())?;
-    assert_eq!(rt; (counted, verified(&committees)?), ((12_500, 0), 0));
-    // An audit verifies each vote once, and no certificate, since it lists recorded votes. A run reads 65,536 bytes at a time,
-    // and a vote lies across the first two of these pieces.
-    let longer = stream_of(alloc, &[NULLIFY, stream.as_slice()])?;
-    assert_eq!(rt; counts(&rt, alloc, longer.as_slice(), 12_501)?, (10_001, 0));
-    // One vote that contradicts has its signer's votes and the certificate of its round verified.
     stream.extend_from_slice(&[0, 0, 128, 1, 5, 7, 3, 0xaa])?;
-    let report = audit_deferred::<Counted, MarkedDigest>(alloc, &committees, stream.as_slice())?;
-    assert_eq!(rt; (report.read, report.evidence.len()), (12_501, 1));
+    assert_eq!(rt; audited_deferred(alloc, &committees, &stream)?, (12_501, 1));
     assert_eq!(rt; verified(&committees)?, 5);
-    let counted = stored_counts(alloc, &committees, stream.as_slice())?;
-    assert_eq!(rt; (counted, verified(&committees)?), ((12_501, 1), 10));
+    assert_eq!(rt; stored_counts(alloc, &committees, &stream)?, (12_501, 1));
+    assert_eq!(rt; verified(&committees)?, 10);
     Ok(())
 }
 

@@ -1,9 +1,11 @@
 //! The ranges of all classes of a stream in one reading, beside those of its rows; and messages that are not decoded.
 
+ghost use Rattle.std.specs.Prelude.{◌+◌, ◌<◌, ◌^◌, All};
+
 use crate::begun::{IN_ORDER, MESSAGES, Message, TAILS, cuts, stream_of};
 use simplex_shards::classes::class_ranges;
 use simplex_shards::cut::Cut;
-use simplex_shards::index::index;
+use simplex_shards::index::{Row, index};
 use simplex_shards::peek::Peek;
 use simplex_shards::ranges::{Range, ranges};
 use std::alloc::Global;
@@ -48,13 +50,25 @@ fn fields(alloc: Global, ranges: &[Range]) -> Result<Vec<(usize, usize)>, Fail> 
     Ok(fields)
 }
 
+/// The fields of the ranges of a class that the rows have.
+fn fields_of(
+    alloc: Global,
+    rows: &[Row],
+    cut: &Cut,
+    class: u32,
+) -> Result<Vec<(usize, usize)>, Fail>
+    requires { All (λ row. row.place + row.length < 2 ^ 64) rows.now }
+{
+    fields(alloc, &ranges(alloc, rows, cut, class)?)
+}
+
 /// Whether one reading finds the ranges of each class that the rows have, as many messages, and the same fault.
 fn agrees(alloc: Global, cut: &Cut, stream: &[u8]) -> Result<bool, Fail> {
     let table = index::<Message>(alloc, BOUND, stream)?;
     let found = class_ranges::<Message>(alloc, BOUND, cut, stream)?;
     let mut same = found.read == table.rows.len() && found.fault == table.fault;
     for class in 0..cut.classes() {
-        let wanted = fields(alloc, &ranges(alloc, &table.rows, cut, class)?)?;
+        let wanted = fields_of(alloc, &table.rows, cut, class)?;
         same = match found.ranges.get(class as usize) {
             Some(ranges) => same && fields(alloc, ranges)? == wanted,
             None => false,

@@ -2,7 +2,37 @@
 
 use crate::begun::{IN_ORDER, LINES, SIZE, TAILS, cuts, four, stream_of};
 use crate::called::{of_classes, of_ranges, of_split, whole};
+use crate::shown::Shown;
+use simplex_audit::audit::Committees;
+use simplex_schemes::marked::Marked;
+use simplex_shards::cut::Cut;
+use std::alloc::Global;
+use std::process::Abort;
 use std::test::Fail;
+
+/// Cut in each way the stream has this report.
+fn expect(
+    rt: &impl Abort,
+    alloc: Global,
+    committees: &Committees<Marked>,
+    cut: &Cut,
+    stream: &[u8],
+    wanted: &Shown,
+) -> Result<(), Fail> {
+    assert!(rt;
+        of_split(alloc, committees, cut, stream)? == *wanted,
+        "{cut:?}"
+    );
+    assert!(rt;
+        of_classes(alloc, committees, cut, stream)? == *wanted,
+        "{cut:?}"
+    );
+    assert!(rt;
+        of_ranges(alloc, committees, cut, stream)? == *wanted,
+        "{cut:?}"
+    );
+    Ok(())
+}
 
 /// Two classes, each of which has messages.
 #[test]
@@ -34,21 +64,7 @@ fn ample_every_cut_gives_the_report_of_the_stream(rt: HostRuntime) -> Result<(),
         assert_eq!(rt; (wanted.read, place), (11, ends));
         for classes in [1, 2, 3, 16, 64] {
             for cut in &cuts(classes) {
-                assert_eq!(rt;
-                    of_split(alloc, &committees, cut, &stream)?,
-                    wanted,
-                    "{cut:?}"
-                );
-                assert_eq!(rt;
-                    of_classes(alloc, &committees, cut, &stream)?,
-                    wanted,
-                    "{cut:?}"
-                );
-                assert_eq!(rt;
-                    of_ranges(alloc, &committees, cut, &stream)?,
-                    wanted,
-                    "{cut:?}"
-                );
+                expect(&rt, alloc, &committees, cut, &stream, &wanted)?;
             }
         }
     }
@@ -64,21 +80,7 @@ fn ample_a_stream_without_messages(rt: HostRuntime) -> Result<(), Fail> {
         let wanted = whole(alloc, &committees, &stream)?;
         assert_eq!(rt; wanted.read, 0);
         for cut in &cuts(3) {
-            assert_eq!(rt;
-                of_split(alloc, &committees, cut, &stream)?,
-                wanted,
-                "{cut:?}"
-            );
-            assert_eq!(rt;
-                of_classes(alloc, &committees, cut, &stream)?,
-                wanted,
-                "{cut:?}"
-            );
-            assert_eq!(rt;
-                of_ranges(alloc, &committees, cut, &stream)?,
-                wanted,
-                "{cut:?}"
-            );
+            expect(&rt, alloc, &committees, cut, &stream, &wanted)?;
         }
     }
     Ok(())

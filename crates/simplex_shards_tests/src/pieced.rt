@@ -7,6 +7,7 @@ use simplex_shards::index::{Row, index};
 use simplex_shards::pieces::Cutter;
 use simplex_shards::split::split;
 use std::alloc::Global;
+use std::process::Abort;
 use std::test::Fail;
 
 /// The bound under which certificates are read.
@@ -80,26 +81,37 @@ fn ample(rt: HostRuntime) -> Result<(), Fail> {
     Ok(())
 }
 
+/// The rows of pieces of every size are those of the whole stream.
+fn compare_rows(rt: &impl Abort, alloc: Global, stream: &[u8]) -> Result<(), Fail> {
+    let table = index::<Message>(alloc, BOUND, stream)?;
+    let wanted = (fields(alloc, &table.rows)?, table.fault);
+    for size in 1..100 {
+        assert!(rt; rows_in(alloc, stream, size)? == wanted, "pieces of {size}");
+    }
+    Ok(())
+}
+
+/// The parts of pieces of every size are those of the whole stream.
+fn compare_parts(rt: &impl Abort, alloc: Global, cut: &Cut, stream: &[u8]) -> Result<(), Fail> {
+    let shards = split::<Message>(alloc, BOUND, cut, stream)?;
+    let wanted = (shards.parts, shards.read, shards.fault);
+    for size in 1..100 {
+        assert!(rt;
+            parts_in(alloc, cut, stream, size)? == wanted,
+            "pieces of {size}"
+        );
+    }
+    Ok(())
+}
+
 #[test]
 fn ample_pieces_of_every_size(rt: HostRuntime) -> Result<(), Fail> {
     let alloc = rt.alloc();
     for tail in &TAILS {
         let stream = stream_of(alloc, &IN_ORDER, tail)?;
-        let table = index::<Message>(alloc, BOUND, &stream)?;
-        let wanted = (fields(alloc, &table.rows)?, table.fault);
-        for size in 1..100 {
-            assert_eq!(rt; rows_in(alloc, &stream, size)?, wanted, "pieces of {size}");
-        }
+        compare_rows(&rt, alloc, &stream)?;
         for cut in &cuts(3) {
-            let shards = split::<Message>(alloc, BOUND, cut, &stream)?;
-            let wanted = (shards.parts, shards.read, shards.fault);
-            for size in 1..100 {
-                assert_eq!(rt;
-                    parts_in(alloc, cut, &stream, size)?,
-                    wanted,
-                    "pieces of {size}"
-                );
-            }
+            compare_parts(&rt, alloc, cut, &stream)?;
         }
     }
     Ok(())
