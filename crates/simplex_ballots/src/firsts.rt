@@ -77,7 +77,7 @@ impl Firsts {
         }
     }
 
-    /// The place of a signer's vote, or else where in the list it would be inserted.
+    /// The place of a signer's vote, or else a hint for `insert`.
     pub fn find(&self, signer: Participant) -> Result<usize, usize>
         ensures found { IfOk result (λ place.
             option_map first_place_of (item_of first_key self.now signer) ≡ Some place) }

@@ -71,7 +71,7 @@ impl Index {
         }
     }
 
-    /// The place of a signer's vote of a kind, the earliest or the other, or else where in its list it would be inserted.
+    /// The place of a signer's vote of a kind, the earliest or the other, or else a hint for `insert`.
     pub fn find(&self, signer: Participant, kind: VoteKind, is_other: bool) -> Result<usize, usize>
         ensures found { IfOk result (λ place.
             option_map place_of (placed_at self.now signer kind is_other) ≡ Some place) }

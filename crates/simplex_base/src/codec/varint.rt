@@ -104,9 +104,9 @@ fn short_groups(bytes: &[u8]) -> Option<(u64, &[u8])>
     (0 < *high).then_some((number, rest))
 }
 
-/// Reads a number of at most four bytes, and returns what follows it, too. `None` only where the bytes are refused, or begin with
-/// a longer number. It is for readers that look at short messages first: unlike a `Result`, what it returns needs no room that
-/// has to be cleared.
+/// Reads a number of at most four bytes, and returns what follows it, too. `None` only where the bytes are refused, or begin
+/// with a longer number. It is for readers that look at short messages first: unlike a `Result`, what it returns needs no room
+/// that has to be cleared.
 #[inline(always)]
 #[tactic(auto, unfolding(crate::specs::Varint::number_at))]
 pub fn short_number(bytes: &[u8]) -> Option<(u64, &[u8])>

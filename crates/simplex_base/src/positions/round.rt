@@ -90,8 +90,8 @@ impl<T: Roundable> Viewable for T {
 }
 
 impl Round {
-    /// The round at the front of some bytes, if its numbers have at most four bytes, and the bytes after it. `None` only where the
-    /// bytes are refused, or the round's numbers are longer.
+    /// The round at the front of some bytes, if its numbers have at most four bytes, and the bytes after it. `None` only where
+    /// the bytes are refused, or the round's numbers are longer.
     #[inline(always)]
     pub fn read_short(bytes: &[u8]) -> Option<(Round, &[u8])>
         ensures read { IfSome result (λ x. ⟦<Round as Read>⟧.reading tt bytes.now ≡ Ok (x.0, x.1.now)) }
