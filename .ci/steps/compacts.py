@@ -7,15 +7,21 @@ Of each stream
 - from a floor the lines are those of the rounds from there on;
 - with any stream before and behind, what is written can stand for the stream.
 
-Then it is run with arguments and devices that are not as they should be.
+What is kept of a piece of the stream comes before the next piece is read. Then it is run with arguments and devices that are
+not as they should be.
 """
 
+import os
 import random
+import select
+import subprocess
 
 from .common import behind_a_fault, build, damaged, expect, program, run, streams
 
 COMPACT = program("audit_compact")
 USAGE = "usage: audit_compact [--floor EPOCH VIEW] NAMESPACE KEY..."
+# how many bytes are read before what is kept of them is written
+PIECE = 65536
 SHAPES = ("votes", "certificates", "all", "honest", "network", "shuffled", "forged", "unsigned")
 
 
@@ -52,6 +58,23 @@ def compare(words, stream, others):
     return len(stream), len(kept)
 
 
+def in_pieces(keys, stream):
+    """Has each piece compacted before the next one is written; returns how many pieces there were."""
+    ends = range(PIECE, len(stream), PIECE)
+    kept = b""
+    with subprocess.Popen([COMPACT, *keys], stdin=subprocess.PIPE, stdout=subprocess.PIPE, stderr=subprocess.DEVNULL) as begun:
+        for end in ends:
+            wanted = compact(keys, stream[:end])[1]
+            assert wanted.startswith(kept) and wanted != kept, "each piece has something to keep"
+            begun.stdin.write(stream[end - PIECE : end])
+            begun.stdin.flush()
+            while len(kept) < len(wanted):
+                assert select.select([begun.stdout], [], [], 20)[0], f"what is kept of the bytes before {end} comes in time"
+                kept += os.read(begun.stdout.fileno(), PIECE)
+            assert kept == wanted, f"what is kept of the bytes before {end}"
+    return len(ends)
+
+
 def refused(keys, stream):
     """Arguments and devices that are not as they should be; returns how many."""
     floors = ("", "0", "0 1", "0 01 KEYS", "-1 1 KEYS", "0 18446744073709551616 KEYS")
@@ -63,7 +86,7 @@ def refused(keys, stream):
         assert (status, said) == (0, b"") and (kept == b"") == (floor != ["0", "0"]), floor
     expect([COMPACT, *keys], 3, err="audit_compact: write failed", stdin=stream, stdout="/dev/full")
     expect([COMPACT, *keys], 3, err="audit_compact: read failed", stdin="/")
-    # What is kept comes while the stream is read, and what stands behind a final fault is dropped.
+    # What stands behind a final fault is dropped.
     got = behind_a_fault([COMPACT, *keys], stream)
     assert got == (1, compact(keys, stream)[1], f"audit_compact: fault at byte {len(stream)}\n".encode()), got[2]
     return len(bad) + 6
@@ -79,4 +102,5 @@ def main():
         sizes += [compare(keys, it, other) for it in damaged(stream)]
     count = len(sizes) + refused(keys, whole["votes"])
     before, after = map(sum, zip(*sizes))
-    print(f"{count} runs of audit_compact as they should be; {before} bytes came down to {after}")
+    pieces = in_pieces(keys, streams("votes", 7, 400))
+    print(f"{count} runs of audit_compact as they should be; {before} bytes came down to {after}; {pieces} pieces in their turn")
