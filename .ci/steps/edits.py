@@ -1,9 +1,12 @@
 """Edits of mutants/: what each changes, and which can be tried at once."""
 
 import dataclasses
+import re
 
 from .common import ROOT
 from .functions import functions
+
+IMPORTS = re.compile(r"(use [^;]*; ?)+$")
 
 
 @dataclasses.dataclass
@@ -36,23 +39,25 @@ class Edit:
         return texts, ""
 
     def places(self):
-        """The functions that it changes, and None if it changes what is none."""
+        """The functions that it changes, and None if it changes what is none. Imports count as nothing."""
         found = set()
-        for path, old, _ in self.pairs:
+        for path, old, new in self.pairs:
+            if IMPORTS.match(old) and IMPORTS.match(new):
+                continue
             text = self.text(path)
             line = text.count("\n", 0, text.find(old)) if text.count(old) == 1 else None
             found.add(next((it for it in functions(path, text) if line in it.body), None))
         return found
 
     def turned(self):
-        """The names of the functions that it changes, and whether it changes one alone and nothing else."""
+        """The names of the functions that it changes, and whether it changes nothing else."""
         found = self.places()
-        return {it.name for it in found - {None}}, len(found) == 1 and None not in found
+        return {it.name for it in found - {None}}, None not in found
 
     def reason(self, refusals):
-        """Why it is refused by these refusals of functions: by one of its function, or by any if it changes more than one."""
-        names, single = self.turned()
-        return next((why for place, why in refusals if not single or any(f"::{it}::" in f"::{place}::" for it in names)), "")
+        """Why it is refused by these refusals of functions: by one of its functions, or by any if it changes what is none."""
+        names, whole = self.turned()
+        return next((why for place, why in refusals if not whole or any(f"::{it}::" in f"::{place}::" for it in names)), "")
 
 
 def edit(file):
@@ -87,15 +92,15 @@ def together(mutants):
 
 
 def batches(mutants):
-    """Lists of mutants that can be tried at once: each changes a function of its own, and nothing else. One that changes
-    several functions, or what is none, is tried alone."""
+    """Lists of mutants that can be tried at once: each changes functions of its own, and nothing else. One that changes what is
+    no function is tried alone."""
     alone, shared = [], []
     for it in mutants:
-        names, single = it.turned()
-        fits = (some for some in shared if all(names != other.turned()[0] for other in some) and together([*some, it]))
-        some = next(fits, None) if single else None
+        names, whole = it.turned()
+        fits = (some for some in shared if not any(names & other.turned()[0] for other in some) and together([*some, it]))
+        some = next(fits, None) if whole else None
         if some:
             some.append(it)
         else:
-            (shared if single else alone).append([it])
+            (shared if whole else alone).append([it])
     return [*shared, *alone]

@@ -2,7 +2,7 @@
 
 First all mutants have to fit the code, linters have to find nothing, and the documents have to be as the sources have them;
 which of their sentences are too long is said and no more. Then `rt ci` proves and builds, and the gate's mutants are tried. Of
-what was built, the rest is tried side by side. The last line counts what passed and what failed.
+what was built, the rest is tried side by side, beside the last mutants. The last line counts what passed and what failed.
 """
 
 import concurrent.futures
@@ -48,24 +48,22 @@ DONE = re.compile(r"rt: (\w+)(?:'s tests)? (?:proved|is kept|are kept)")
 FAILED = re.compile(r"(note: )?[^ ]+:[0-9:]+ (error|it is not proved)|.*(NOT (PROVED|REFUSED|TRIED)|FAILED)")
 
 
-def proofs():
-    """Runs `rt ci` and, as soon as libraries are built, tries the gate's mutants. Returns what to say last: how many crates and
-    mutants passed."""
-    trials = mutants.Trials()
-    try:
-        status, said = prove(["rt", "ci"], crates(), DONE, shown=True, told=trials.begin, cwd=ROOT)
-        said = [line.rstrip("\n") for line in said] or [""]
-        if status or said[-1] != f"{len(crates())} passed, 0 failed":
-            fail("What failed:", *filter(FAILED.match, said), said[-1])
-        say("trying the mutants that are left")
-        found = trials.end()
-    finally:
-        trials.stop()
+def proofs(trials):
+    """Runs `rt ci` and, as soon as libraries are built, begins to try the gate's mutants."""
+    status, said = prove(["rt", "ci"], crates(), DONE, shown=True, told=trials.begin, cwd=ROOT)
+    said = [line.rstrip("\n") for line in said] or [""]
+    if status or said[-1] != f"{len(crates())} passed, 0 failed":
+        fail("What failed:", *filter(FAILED.match, said), said[-1])
+
+
+def tried(trials):
+    """How many mutants the prover refused, once it tried all."""
+    found = trials.end()
     print(*(mutants.verdict(it, why) for it, why in found), sep="\n")
     missed = [mutants.verdict(it, why) for it, why in found if not mutants.is_right(it, why)]
     if missed or len(found) != len(mutants.edits(gate=True)):
         fail(f"{len(found)} mutants were tried", *missed)
-    return f"{len(crates()) + sum(not it.means_the_same for it, _ in found)} passed, 0 failed"
+    return sum(not it.means_the_same for it, _ in found)
 
 
 def step(name, begin):
@@ -79,7 +77,7 @@ def step(name, begin):
 
 def side_by_side():
     """Runs all steps, prints what they say, and returns whether all passed."""
-    say(f"{len(STEPS)} steps side by side, which take some minutes")
+    say(f"{len(STEPS)} steps and the mutants that are left, side by side, which take some minutes")
     begin, passed = time.time(), []
     with concurrent.futures.ThreadPoolExecutor(len(STEPS)) as pool:
         library = pool.submit(step, "library", begin)
@@ -97,8 +95,14 @@ def side_by_side():
 def main():
     if mutants.main() or lint.main() or documents.main() or sentences.main("--counts"):
         return 1
-    last = proofs()
-    if not side_by_side():
-        return 1
-    print(last)
+    trials = mutants.Trials()
+    with concurrent.futures.ThreadPoolExecutor(1) as pool:
+        try:
+            proofs(trials)
+            refused = pool.submit(tried, trials)
+            if not side_by_side():
+                return 1
+            print(f"{len(crates()) + refused.result()} passed, 0 failed")
+        finally:
+            trials.stop()
     return 0

@@ -7,9 +7,9 @@ once, and what was found is kept under `~/.cache`. mutants/refused.txt has the d
 A check that is killed, as when memory runs out, is run once more. If it is killed again the step ends: its mutants are not
 tried.
 
-Two controls show that it is the mutants that are refused. The shortest of the functions that a crate's mutants change is first
-checked as it stands, and has to be proved, as `rt ci` proves all. An edit of mutants/CRATE/gate/same/ means the same as what it
-changes: tried beside mutants, it must not be refused.
+Two controls show that it is the mutants that are refused. A check of a crate's mutants has to prove a function, too, that stands
+there as it is: the shortest of those that other mutants of the crate change. If it calls one that is changed, it is checked
+alone. An edit of mutants/CRATE/gate/same/ means the same as what it changes: tried beside mutants, it must not be refused.
 """
 
 import concurrent.futures
@@ -84,7 +84,7 @@ class Trial:
     """Tries a crate's mutants, in a folder in which a check keeps what it proves of the functions that they leave alone."""
 
     def __init__(self, crate, room):
-        self.crate, self.room, self.words = crate, pathlib.Path(room), checking(crate)
+        self.crate, self.room, self.words, self.stood = crate, pathlib.Path(room), checking(crate), False
 
     def check(self, texts, names):
         """What a check of these functions says, or of all if none is named, with these texts in the place of the crate's."""
@@ -96,7 +96,8 @@ class Trial:
             (place / path).write_text(text)
         only = [word for name in sorted(names) for word in ("--only", name)]
         how = {"stdin": subprocess.DEVNULL, "stdout": subprocess.PIPE, "stderr": subprocess.STDOUT, "errors": "replace"}
-        command = ["nice", *self.words, "--incremental", self.room / "kept", *only]
+        # so that they are not all left for the end of the gate, nor keep `rt ci` long
+        command = ["nice", "-n", "3", *self.words, "--incremental", self.room / "kept", *only]
         done = subprocess.run(command, cwd=place, **how)
         if done.returncode == -signal.SIGKILL:
             done = subprocess.run(command, cwd=place, **how)
@@ -105,17 +106,22 @@ class Trial:
             fail(f"{self.crate}: NOT TRIED: its check was killed twice, most likely for memory: {' '.join(sorted(names))}")
         return done.stdout.splitlines()
 
-    def stands(self, mutants):
-        """Whether the shortest of the functions that these change, and what it calls, is proved as it stands."""
-        found = {place for it in mutants for place in it.places()} - {None}
-        shortest = min(found, key=lambda it: (len(it.lines), it.name), default=None)
-        return not shortest or is_proved(self.check({}, [shortest.name]))
+    def control(self, mutants):
+        """The shortest of the functions that mutants of the crate change and these leave alone, if there is one."""
+        found = sorted((len(place.lines), place.name) for it in edits(self.crate) for place in it.places() if place)
+        return {*[name for _, name in found if name not in changed(mutants)][:1]}
+
+    def stands(self):
+        """Whether the control was proved beside mutants, or is proved alone."""
+        return self.stood or is_proved(self.check({}, self.control([])))
 
     def batch(self, mutants):
         """Tries mutants at once: yields each, with why the prover refuses it, or nothing where it does not. It says nothing of
         a function that calls one that is refused, so those of which it says nothing are tried once more."""
-        texts = together(mutants)
-        said = self.check(texts, changed(mutants))
+        texts, control = together(mutants), set() if self.stood else self.control(mutants)
+        # one that changes no function is tried in a check of all
+        said = self.check(texts, changed(mutants) and changed(mutants) | control)
+        self.stood = self.stood or any(f"fn {self.crate}::{it}: proved" in said for it in control)
         reasons, left = refusals(said, texts), []
         for it in mutants:
             why = it.reason(reasons) or (self.alone(it, texts, said) if len(mutants) == 1 else "")
@@ -170,13 +176,14 @@ def tried(mutants):
     KEPT.mkdir(parents=True, exist_ok=True)
     with tempfile.TemporaryDirectory() as room:
         trial = Trial(crate, room)
-        if new and not trial.stands(new):
+        found = [it for some in batches(new) for it in trial.batch(some)]
+        # nothing is kept of checks that prove nothing
+        if new and not trial.stands():
             fail(f"{crate}: what its mutants change is NOT PROVED as it stands")
-        for some in batches(new):
-            for it, why in trial.batch(some):
-                if is_right(it, why):
-                    places[str(it)].write_text(why)
-                yield it, why
+    for it, why in found:
+        if is_right(it, why):
+            places[str(it)].write_text(why)
+        yield it, why
 
 
 def is_right(mutant, why):
@@ -193,18 +200,21 @@ def verdict(mutant, why):
 
 class Trials:
     """Tries the mutants of the gate, crate by crate, as soon as the libraries below a crate are built: on half of the
-    processors while `rt ci` runs, and on four at most."""
+    processors while `rt ci` has more than one crate left to prove, for its memory, and on four at most."""
 
     def __init__(self):
         self.left = {it.crate: below(it.crate) - {it.crate} for it in edits(gate=True)}
         self.most = min(4, len(os.sched_getaffinity(0)))
         self.pool, self.turns = concurrent.futures.ThreadPoolExecutor(self.most), threading.Semaphore(-(-self.most // 2))
-        self.begun, self.built = {}, set()
+        self.begun, self.built, self.is_late = {}, set(), False
         self.begin()
 
     def begin(self, *built):
         """Begins what can be tried now that these are built, too."""
         self.built.update(built)
+        if not self.is_late and len(crates()) - len(self.built) < 2:
+            self.is_late = True
+            self.turns.release(self.most)
         for crate in [it for it, needs in self.left.items() if needs <= self.built]:
             del self.left[crate]
             self.begun[crate] = self.pool.submit(self.crate, crate)
@@ -219,7 +229,6 @@ class Trials:
 
     def end(self):
         """Each mutant, and why it is refused, once all were tried."""
-        self.turns.release(self.most)
         return [found for it in self.begun.values() for found in it.result()]
 
     def stop(self):
