@@ -39,10 +39,11 @@ class Edit:
         return texts, ""
 
     def places(self):
-        """The functions that it changes, and None if it changes what is none. Imports count as nothing."""
+        """The functions that it changes, and None if it changes what is none. Imports, and a function that it adds before the
+        comment of another, count as nothing."""
         found = set()
         for path, old, new in self.pairs:
-            if IMPORTS.match(old) and IMPORTS.match(new):
+            if IMPORTS.match(old) and IMPORTS.match(new) or old.lstrip().startswith("///") and new.endswith(old.lstrip()):
                 continue
             text = self.text(path)
             line = text.count("\n", 0, text.find(old)) if text.count(old) == 1 else None
