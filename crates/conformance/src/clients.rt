@@ -1,12 +1,14 @@
 //! What callers of the audit return: a light client and a ledger.
 
-use crate::audits::lines;
+use crate::audits::push_evidence;
 use conformance_messages::refusals::name;
 use conformance_messages::vectors::{Unanswered, bytes};
 use examples::light_client::{Followed, LightClient};
-use simplex_audit::audit::Committees;
+use simplex_audit::audit::{Committees, Evidence};
 use simplex_audit::ledger::Ledger;
-use simplex_scheme::scheme::{Digest, Listing};
+use simplex_base::codec::Error;
+use simplex_scheme::scheme::{Digest, Listing, SchemeTypes};
+use simplex_schemes::marked::{Marked, MarkedDigest};
 use std::alloc::{AllocError, Global};
 
 /// What a light client returns for each finalization that comes as bytes.
@@ -18,59 +20,77 @@ pub(crate) fn follow<S: Listing<D>, D: Digest>(
     let mut client = LightClient::<S, D>::new(committees);
     let mut text = String::new(alloc);
     for word in words {
-        let said = followed(alloc, &mut client, bytes(alloc, &[*word])?.as_slice())?;
+        let encoding = bytes(alloc, &[*word])?;
         if !text.is_empty() {
             text.push_str(" | ")?;
         }
-        text.push_str(said.as_str())?;
+        push_followed(alloc, &mut text, client.follow(alloc, encoding.as_slice()))?;
     }
     Ok(text)
 }
 
-/// What a light client returns for a finalization that comes as bytes.
-fn followed<S: Listing<D>, D: Digest>(
+/// Appends what a light client returned for a finalization.
+fn push_followed<S: SchemeTypes, D: Digest>(
     alloc: Global,
-    client: &mut LightClient<'_, S, D>,
-    bytes: &[u8],
-) -> Result<String, AllocError> {
-    match client.follow(alloc, bytes) {
-        Ok(Followed::Taken) => "taken".to_string(alloc),
-        Ok(Followed::Known) => "known".to_string(alloc),
-        Ok(Followed::Refused) => "refused".to_string(alloc),
+    text: &mut String,
+    followed: Result<Followed<S, D>, Error>,
+) -> Result<(), AllocError> {
+    match followed {
+        Ok(Followed::Taken) => text.push_str("taken"),
+        Ok(Followed::Known) => text.push_str("known"),
+        Ok(Followed::Refused) => text.push_str("refused"),
         Ok(Followed::Fork(evidence)) => {
-            let mut text = "fork".to_string(alloc)?;
-            text.push_str(lines(alloc, evidence.as_slice())?.as_str())?;
-            Ok(text)
+            text.push_str("fork")?;
+            push_evidence(alloc, text, evidence.as_slice())
         }
-        Err(error) => name(alloc, error),
+        Err(error) => text.push_str(name(alloc, error)?.as_str()),
     }
 }
 
 /// What a ledger stores that was fed these pieces, and the evidence of one that resumes with it.
-pub(crate) fn store<S: Listing<D>, D: Digest>(
+pub(crate) fn store(
     alloc: Global,
-    committees: &Committees<S>,
+    committees: &Committees<Marked>,
     pieces: &[&str],
 ) -> Result<String, Unanswered> {
-    let mut ledger = Ledger::<S, D>::new(alloc, committees);
-    for piece in pieces {
-        ledger = fed_on(ledger, bytes(alloc, &[*piece])?.as_slice())?;
-    }
-    let stored = ledger.store(alloc)?;
-    let resumed = Ledger::<S, D>::resume(alloc, committees, stored.as_slice())?;
-    let evidence = resumed.evidence()?;
+    let stored = stored(alloc, committees, pieces)?;
+    let evidence = resumed(alloc, committees, stored.as_slice())?;
     let mut text = hex::encode(alloc, stored.as_slice())?;
-    text.push_str(lines(alloc, evidence.as_slice())?.as_str())?;
+    push_evidence(alloc, &mut text, evidence.as_slice())?;
     Ok(text)
 }
 
+/// What a ledger stores that was fed these pieces.
+fn stored(
+    alloc: Global,
+    committees: &Committees<Marked>,
+    pieces: &[&str],
+) -> Result<Vec<u8>, Unanswered> {
+    let mut ledger = Ledger::<Marked, MarkedDigest>::new(alloc, committees);
+    for piece in pieces {
+        ledger = fed_on(alloc, ledger, *piece)?;
+    }
+    Ok(ledger.store(alloc)?)
+}
+
 /// Feeds a piece. A stream that is longer than can be counted is no test vector.
-fn fed_on<'a, S: Listing<D>, D: Digest>(
-    ledger: Ledger<'a, S, D>,
-    piece: &[u8],
-) -> Result<Ledger<'a, S, D>, Unanswered> {
+fn fed_on<'a>(
+    alloc: Global,
+    ledger: Ledger<'a, Marked, MarkedDigest>,
+    piece: &str,
+) -> Result<Ledger<'a, Marked, MarkedDigest>, Unanswered> {
+    let piece = bytes(alloc, &[piece])?;
     if piece.len() > usize::MAX - ledger.fed() {
         return Err(Unanswered::NoVector);
     }
-    Ok(ledger.feed(piece)?)
+    Ok(ledger.feed(piece.as_slice())?)
+}
+
+/// The evidence of a ledger that resumes with what one stored.
+fn resumed(
+    alloc: Global,
+    committees: &Committees<Marked>,
+    stored: &[u8],
+) -> Result<Vec<Evidence<Marked, MarkedDigest>>, AllocError> {
+    Ledger::<Marked, MarkedDigest>::resume(alloc, committees, stored)?.evidence()
 }

@@ -39,9 +39,7 @@ pub fn message_vector(alloc: Global, words: &[&str]) -> Result<String, Unanswere
         }
         ["verify" | "sign" | "assemble" | "many", scheme, ..] => vote_vector(alloc, *scheme, words),
         ["derive", base @ ..] => derive(alloc, bytes(alloc, base)?.as_slice()),
-        ["subject", kind, base, encoding @ ..] => subject::<MarkedDigest>(
-            alloc, *kind, *base, encoding,
-        ),
+        ["subject", kind, base, encoding @ ..] => subject(alloc, *kind, *base, encoding),
         _ => node_vector(alloc, words),
     }
 }
@@ -55,7 +53,7 @@ fn node_vector(alloc: Global, words: &[&str]) -> Result<String, Unanswered>
             let scheme = committee(alloc, *participants)?;
             batch::<_, MarkedDigest>(alloc, &scheme, *proposal, votes)
         }
-        ["resolve", participants, encoding @ ..] => resolved::<_, MarkedDigest>(
+        ["resolve", participants, encoding @ ..] => resolved(
             alloc,
             &committee(alloc, *participants)?,
             bytes(alloc, encoding)?.as_slice(),
@@ -90,57 +88,56 @@ fn window_vector(alloc: Global, words: &[&str]) -> Result<String, Unanswered>
     ensures { length words.now ≡ 0 → result ≡ Err NoVector }
 {
     match words {
-        ["admits", length, ahead, current, pending] => {
+        ["admits" | "outbound" | "limit" | "floor", length, ahead, ..] => {
+            lookahead_vector(alloc, lookahead(*length, *ahead)?, words)
+        }
+        [
+            "viewport" | "hear",
+            finalized,
+            current,
+            retention,
+            length,
+            ahead,
+            ..
+        ] => {
             let lookahead = lookahead(*length, *ahead)?;
+            let viewport = viewport(*finalized, *current, *retention, lookahead)?;
+            node_view_vector(alloc, viewport, words)
+        }
+        _ => Err(Unanswered::NoVector),
+    }
+}
+
+/// The answer to the test vector of these words, which asks this lookahead.
+fn lookahead_vector(
+    alloc: Global,
+    lookahead: Lookahead,
+    words: &[&str],
+) -> Result<String, Unanswered> {
+    match words {
+        ["admits", _, _, current, pending] => {
             let taken = admits(lookahead, view(*current)?, view(*pending)?);
             Ok(truth(alloc, taken)?)
         }
-        ["outbound", length, ahead, current, pending] => {
-            let lookahead = lookahead(*length, *ahead)?;
+        ["outbound", _, _, current, pending] => {
             let sent = outbound(lookahead, view(*current)?, view(*pending)?);
             Ok(truth(alloc, sent)?)
         }
-        ["limit", length, ahead, current] => {
-            let lookahead = lookahead(*length, *ahead)?;
-            Ok(limit_vector(alloc, lookahead, view(*current)?)?)
-        }
-        ["floor", length, ahead, place] => {
-            let lookahead = lookahead(*length, *ahead)?;
-            Ok(floor_vector(alloc, lookahead, view(*place)?)?)
-        }
-        [
-            "viewport",
-            finalized,
-            current,
-            retention,
-            length,
-            ahead,
-            place,
-        ] => {
-            let viewport = viewport(
-                *finalized,
-                *current,
-                *retention,
-                lookahead(*length, *ahead)?,
-            )?;
-            Ok(viewport_vector(alloc, viewport, view(*place)?)?)
-        }
-        [
-            "hear",
-            finalized,
-            current,
-            retention,
-            length,
-            ahead,
-            certified,
-            place,
-        ] => {
-            let viewport = viewport(
-                *finalized,
-                *current,
-                *retention,
-                lookahead(*length, *ahead)?,
-            )?;
+        ["limit", _, _, current] => Ok(limit_vector(alloc, lookahead, view(*current)?)?),
+        ["floor", _, _, place] => Ok(floor_vector(alloc, lookahead, view(*place)?)?),
+        _ => Err(Unanswered::NoVector),
+    }
+}
+
+/// The answer to the test vector of these words, which asks a node of this viewport.
+fn node_view_vector(
+    alloc: Global,
+    viewport: Viewport,
+    words: &[&str],
+) -> Result<String, Unanswered> {
+    match words {
+        ["viewport", _, _, _, _, _, place] => Ok(viewport_vector(alloc, viewport, view(*place)?)?),
+        ["hear", _, _, _, _, _, certified, place] => {
             Ok(hear(alloc, &viewport, view(*certified)?, view(*place)?)?)
         }
         _ => Err(Unanswered::NoVector),

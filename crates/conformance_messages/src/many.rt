@@ -4,12 +4,12 @@ use crate::refusals::name;
 use crate::vectors::Unanswered;
 use crate::votes::values;
 use simplex_evidence::types::{verify_finalizations, verify_notarizations, verify_nullifications};
-use simplex_scheme::scheme::{CertificateScheme, Digest, Scheme};
+use simplex_scheme::scheme::{CertificateScheme, CertificateVerifier, Digest};
 use simplex_votes::types::{Certificate, Finalization, Notarization, Nullification};
 use std::alloc::{AllocError, Global};
 
 /// Whether each of the certificate messages that the bytes encode is valid: those of a kind are verified at once.
-pub(crate) fn many<S: Scheme<D>, D: Digest + 'static>(
+pub(crate) fn many<S: CertificateVerifier<D>, D: Digest + 'static>(
     alloc: Global,
     scheme: &S,
     bytes: &[u8],
@@ -19,7 +19,7 @@ pub(crate) fn many<S: Scheme<D>, D: Digest + 'static>(
         Ok(messages) => messages,
         Err(error) => return Ok(name(alloc, error)?),
     };
-    Ok(answers(alloc, scheme, messages)?)
+    Ok(answers(alloc, scheme, &by_kind(alloc, messages)?)?)
 }
 
 /// Certificate messages, by their kind.
@@ -42,12 +42,11 @@ impl<S: CertificateScheme, D: Digest> Kinds<S, D> {
     }
 }
 
-/// The answer of the messages, kind by kind.
-fn answers<S: Scheme<D>, D: Digest + 'static>(
+/// The messages, by their kind.
+fn by_kind<S: CertificateScheme, D: Digest>(
     alloc: Global,
-    scheme: &S,
     messages: Vec<Certificate<S, D>>,
-) -> Result<String, AllocError> {
+) -> Result<Kinds<S, D>, AllocError> {
     let mut kinds = Kinds {
         notarizations: Vec::new(alloc),
         nullifications: Vec::new(alloc),
@@ -56,20 +55,33 @@ fn answers<S: Scheme<D>, D: Digest + 'static>(
     for message in messages {
         kinds.push(message)?;
     }
-    let mut text = String::new(alloc);
-    let answers = verify_notarizations(alloc, scheme, kinds.notarizations.as_slice())?;
-    push_answers(&mut text, "notarizations", answers.as_slice())?;
-    let answers = verify_nullifications::<S, D>(alloc, scheme, kinds.nullifications.as_slice())?;
-    push_answers(&mut text, "; nullifications", answers.as_slice())?;
-    let answers = verify_finalizations(alloc, scheme, kinds.finalizations.as_slice())?;
-    push_answers(&mut text, "; finalizations", answers.as_slice())?;
+    Ok(kinds)
+}
+
+/// The answer of the messages, kind by kind.
+fn answers<S: CertificateVerifier<D>, D: Digest + 'static>(
+    alloc: Global,
+    scheme: &S,
+    kinds: &Kinds<S, D>,
+) -> Result<String, AllocError> {
+    let mut text = "notarizations".to_string(alloc)?;
+    let valid = verify_notarizations(alloc, scheme, kinds.notarizations.as_slice());
+    push_answers(&mut text, valid)?;
+    text.push_str("; nullifications")?;
+    let valid = verify_nullifications::<S, D>(alloc, scheme, kinds.nullifications.as_slice());
+    push_answers(&mut text, valid)?;
+    text.push_str("; finalizations")?;
+    let valid = verify_finalizations(alloc, scheme, kinds.finalizations.as_slice());
+    push_answers(&mut text, valid)?;
     Ok(text)
 }
 
-/// Appends a word and answers, with a blank before each.
-fn push_answers(text: &mut String, word: &str, answers: &[bool]) -> Result<(), AllocError> {
-    text.push_str(word)?;
-    for answer in answers {
+/// Appends answers, with a blank before each.
+fn push_answers(
+    text: &mut String,
+    answers: Result<Vec<bool>, AllocError>,
+) -> Result<(), AllocError> {
+    for answer in answers?.as_slice() {
         text.push_str(if *answer { " true" } else { " false" })?;
     }
     Ok(())

@@ -13,6 +13,8 @@ use simplex_lead::Viewport;
 use simplex_scheme::scheme::{
     CertificateScheme, CertificateSubject, Digest, Proposal, Scheme, Subject,
 };
+use simplex_schemes::marked::{Marked, MarkedDigest};
+use simplex_schemes::own::MarkedCertificate;
 use simplex_votes::types::{Notarization, Notarize};
 use std::alloc::{AllocError, Global};
 
@@ -53,17 +55,13 @@ fn taken<S: Scheme<D>, D: Digest>(
 }
 
 /// What a resolver selects of the notarizations that the bytes encode: the proposals that are certified.
-pub(crate) fn resolved<S: Scheme<D>, D: Digest>(
-    alloc: Global,
-    scheme: &S,
-    bytes: &[u8],
-) -> Result<String, Unanswered> {
+pub(crate) fn resolved(alloc: Global, scheme: &Marked, bytes: &[u8]) -> Result<String, Unanswered> {
     let bound = scheme.certificate_codec_config();
-    let messages: Vec<Notarization<S, D>> = match values(alloc, &bound, bytes) {
+    let messages: Vec<Notarization<Marked, MarkedDigest>> = match values(alloc, &bound, bytes) {
         Ok(messages) => messages,
         Err(error) => return Ok(name(alloc, error)?),
     };
-    let items: Vec<(Subject<'_, D>, &S::Certificate)> = messages
+    let items: Vec<(Subject<'_, MarkedDigest>, &MarkedCertificate)> = messages
         .iter()
         .map(item_of)
         .collect(alloc)?;
@@ -76,18 +74,18 @@ pub(crate) fn resolved<S: Scheme<D>, D: Digest>(
 }
 
 /// A notarization as an item for a resolver.
-fn item_of<'a, S: Scheme<D>, D: Digest>(
-    message: &'a Notarization<S, D>,
-) -> (Subject<'a, D>, &'a S::Certificate) {
+fn item_of<'a>(
+    message: &'a Notarization<Marked, MarkedDigest>,
+) -> (Subject<'a, MarkedDigest>, &'a MarkedCertificate) {
     let proposal = &message.proposal;
     (Subject::Notarize { proposal }, &message.certificate)
 }
 
 /// Appends a blank, and a subject as its message encodes it.
-fn push_subject<D: Digest>(
+fn push_subject(
     text: &mut String,
     alloc: Global,
-    subject: &Subject<'_, D>,
+    subject: &Subject<'_, MarkedDigest>,
 ) -> Result<(), AllocError> {
     let message = subject.message(alloc)?;
     text.push_str(" ")?;

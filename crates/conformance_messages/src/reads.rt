@@ -11,7 +11,9 @@ use simplex_base::positions::{Epoch, Participant, Round, View};
 use simplex_evidence::types::{
     Activity, ConflictingFinalize, ConflictingNotarize, NullifyFinalize,
 };
-use simplex_scheme::scheme::{Attestation, Digest, Proposal, Scheme, Sha256Digest};
+use simplex_scheme::scheme::{
+    Attestation, CertificateScheme, Digest, Proposal, SchemeTypes, Sha256Digest,
+};
 use simplex_schemes::marked::{Marked, MarkedDigest};
 use simplex_schemes::plain::{Plain, PlainKey};
 use simplex_votes::types::{
@@ -181,30 +183,8 @@ pub(crate) fn read_vector(
     }
 }
 
-/// The same of a message, or a part of one, of a scheme and a digest.
-fn read_message<S: Scheme<D>, D: Digest>(
-    alloc: Global,
-    asked: Asked,
-    kind: &str,
-    bound: u32,
-    bytes: &[u8],
-) -> Result<String, Unanswered> {
-    match kind {
-        "proposal" => read_free::<Proposal<D>>(alloc, asked, bytes),
-        "attestation" => read_free::<Attestation<S>>(alloc, asked, bytes),
-        "notarize" => read_free::<Notarize<S, D>>(alloc, asked, bytes),
-        "nullify" => read_free::<Nullify<S>>(alloc, asked, bytes),
-        "finalize" => read_free::<Finalize<S, D>>(alloc, asked, bytes),
-        "vote" => read_free::<Vote<S, D>>(alloc, asked, bytes),
-        "conflicting-notarize" => { read_free::<ConflictingNotarize<S, D>>(alloc, asked, bytes) }
-        "conflicting-finalize" => { read_free::<ConflictingFinalize<S, D>>(alloc, asked, bytes) }
-        "nullify-finalize" => read_free::<NullifyFinalize<S, D>>(alloc, asked, bytes),
-        _ => read_bounded::<S, D>(alloc, asked, kind, bound, bytes),
-    }
-}
-
-/// The same of a type with certificates, which are read under the bound.
-fn read_bounded<S: Scheme<D>, D: Digest>(
+/// The same of a message, or a part of one, of a scheme and a digest. Types with certificates are read under the bound.
+fn read_message<S: CertificateScheme, D: Digest>(
     alloc: Global,
     asked: Asked,
     kind: &str,
@@ -219,6 +199,27 @@ fn read_bounded<S: Scheme<D>, D: Digest>(
         "certificate" => read_under(alloc, asked, &bound, bytes, Certificate::<S, D>::clone),
         "artifact" => read_under(alloc, asked, &bound, bytes, Artifact::<S, D>::clone),
         "activity" => read_under(alloc, asked, &bound, bytes, Activity::<S, D>::clone),
+        _ => read_vote::<S, D>(alloc, asked, kind, bytes),
+    }
+}
+
+/// The same of a vote, two votes that contradict, or a part of one.
+fn read_vote<S: SchemeTypes, D: Digest>(
+    alloc: Global,
+    asked: Asked,
+    kind: &str,
+    bytes: &[u8],
+) -> Result<String, Unanswered> {
+    match kind {
+        "proposal" => read_free::<Proposal<D>>(alloc, asked, bytes),
+        "attestation" => read_free::<Attestation<S>>(alloc, asked, bytes),
+        "notarize" => read_free::<Notarize<S, D>>(alloc, asked, bytes),
+        "nullify" => read_free::<Nullify<S>>(alloc, asked, bytes),
+        "finalize" => read_free::<Finalize<S, D>>(alloc, asked, bytes),
+        "vote" => read_free::<Vote<S, D>>(alloc, asked, bytes),
+        "conflicting-notarize" => read_free::<ConflictingNotarize<S, D>>(alloc, asked, bytes),
+        "conflicting-finalize" => read_free::<ConflictingFinalize<S, D>>(alloc, asked, bytes),
+        "nullify-finalize" => read_free::<NullifyFinalize<S, D>>(alloc, asked, bytes),
         _ => Err(Unanswered::NoVector),
     }
 }

@@ -35,26 +35,32 @@ pub(crate) fn plain(alloc: Global, base: &str, word: &str) -> Result<Plain, Unan
         }
         Some((committee, signer)) => {
             let keys = numbered_keys(alloc, committee)?;
-            let Some(own) = keys.get(participant(signer)?.get() as usize) else {
-                return Err(Unanswered::NoVector);
-            };
-            let own = *own;
-            Plain::signer(alloc, base.as_slice(), keys, &own)?.ok_or(Unanswered::NoVector)
+            signing(alloc, base.as_slice(), keys, participant(signer)?)
         }
     }
+}
+
+/// The plain scheme of a participant of a committee.
+fn signing(
+    alloc: Global,
+    base: &[u8],
+    keys: Set<PlainKey>,
+    signer: Participant,
+) -> Result<Plain, Unanswered>
+    requires { (1 ≤ length keys) × (length keys < 2 ^ 32) }
+{
+    let Some(own) = keys.get(signer.get() as usize) else {
+        return Err(Unanswered::NoVector);
+    };
+    let own = *own;
+    Plain::signer(alloc, base, keys, &own)?.ok_or(Unanswered::NoVector)
 }
 
 /// The plain keys of a committee, `N` of them or `FIRST+N`.
 fn numbered_keys(alloc: Global, word: &str) -> Result<Set<PlainKey>, Unanswered>
     ensures { IfOk result (λ keys. (1 ≤ length keys) × (length keys < 2 ^ 32)) }
 {
-    let (first, size) = match word.split_once('+') {
-        None => (0, committee_size(word)?),
-        Some((first, size)) => (small(first)?, committee_size(size)?),
-    };
-    let Some(end) = first.checked_add(size) else {
-        return Err(Unanswered::NoVector);
-    };
+    let (first, end) = numbers(word)?;
     let mut keys = Vec::new(alloc);
     for number in first..end {
         keys.push(numbered_key(Participant::new(number)))
@@ -67,6 +73,18 @@ fn numbered_keys(alloc: Global, word: &str) -> Result<Set<PlainKey>, Unanswered>
         return Err(Unanswered::NoVector);
     }
     Ok(keys)
+}
+
+/// The number of the first key of a committee, and the one behind its last.
+fn numbers(word: &str) -> Result<(u32, u32), Unanswered> {
+    let (first, size) = match word.split_once('+') {
+        None => (0, committee_size(word)?),
+        Some((first, size)) => (small(first)?, committee_size(size)?),
+    };
+    match first.checked_add(size) {
+        Some(end) => Ok((first, end)),
+        None => Err(Unanswered::NoVector),
+    }
 }
 
 /// The key whose 32 bytes are the number of the participant, the most significant first.
