@@ -7,6 +7,7 @@ ghost use Rattle.simplex_border.specs.Signatures.{ForSizes, IsSignatureSize};
 ghost use Rattle.simplex_ffi.specs.Rows.{AreClasses, AreClassesGiven, AreRangesGiven, IsClassSummary, RowsFit, all_ranges, ends_from};
 
 use crate::rows::Indexed;
+use simplex_base::codec::fixed_bytes::Role;
 use simplex_base::positions::{Epoch, Round, View};
 use simplex_border::answer::{ARGUMENTS, MEMORY, ReportSummary, SHORT, WHOLE, ended, place, put};
 use simplex_border::signatures::{VouchedSize, vouched_size};
@@ -161,6 +162,28 @@ fn put_classes<S: SkipCertificate<D>, D: Digest>(
     ended(found.fault)
 }
 
+/// As [`put_classes`], of signatures of `N` bytes, the last of which is the caller's verdict.
+fn put_classes_vouched<R: Role<N>, const N: usize>(
+    alloc: Global,
+    bound: u32,
+    stream: &[u8],
+    seed: u64,
+    buffer: &mut [Range],
+    ends: &mut [usize],
+    summary: &mut ReportSummary,
+) -> u32
+    ensures given { result ≢ 2 → result ≢ 3 → AreClassesGiven
+        (⟦<Vouched<R, N> as Indexed<Sha256Digest>>⟧.are_class_ranges bound
+        (mixed_class seed (length ends.old)) (length ends.old) stream.now)
+        buffer.old buffer.new ends.old ends.new summary.new result }
+    ensures taken { result ≢ 2 → AreClasses (length ends.old) }
+    ensures refused { result ≡ 2 → ¬ AreClasses (length ends.old) }
+    ensures untouched { (result ≡ 2) ⊎ (result ≡ 3) →
+        (buffer.new ≡ buffer.old) × (ends.new ≡ ends.old) × (summary.new ≡ summary.old) }
+{
+    put_classes::<Vouched<R, N>, Sha256Digest>(alloc, bound, stream, seed, buffer, ends, summary)
+}
+
 /// Puts the ranges of all classes of a stream's rounds at the start of a buffer, one class after another, under `Cut::Mixed`
 /// into as many classes as `ends` has room for, and where the ranges of each class end there into `ends`. Signatures have so
 /// many bytes: 32 under the plain scheme; or 48, 64 or 96, each with the caller's verdict behind it. Certificates are read
@@ -206,19 +229,13 @@ pub fn classes_of_stream(
     }
     match vouched_size(signature) {
         Some(VouchedSize::Of48) => {
-            put_classes::<Vouched<Role48, 49>, Sha256Digest>(
-                alloc, bound, stream, seed, buffer, ends, summary,
-            )
+            put_classes_vouched::<Role48, 49>(alloc, bound, stream, seed, buffer, ends, summary)
         }
         Some(VouchedSize::Of64) => {
-            put_classes::<Vouched<Role64, 65>, Sha256Digest>(
-                alloc, bound, stream, seed, buffer, ends, summary,
-            )
+            put_classes_vouched::<Role64, 65>(alloc, bound, stream, seed, buffer, ends, summary)
         }
         Some(VouchedSize::Of96) => {
-            put_classes::<Vouched<Role96, 97>, Sha256Digest>(
-                alloc, bound, stream, seed, buffer, ends, summary,
-            )
+            put_classes_vouched::<Role96, 97>(alloc, bound, stream, seed, buffer, ends, summary)
         }
         None => ARGUMENTS,
     }

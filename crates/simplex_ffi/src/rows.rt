@@ -11,6 +11,7 @@ ghost use Rattle.simplex_border.specs.Signatures.{ForSizes, IsSignatureSize};
 ghost use Rattle.simplex_ffi.specs.Rows.{AreRowsGiven, IsTableSummary};
 
 use simplex_base::codec::Read;
+use simplex_base::codec::fixed_bytes::Role;
 use simplex_base::positions::Roundable;
 use simplex_border::answer::{ARGUMENTS, MEMORY, ReportSummary, SHORT, ended, place, put};
 use simplex_border::signatures::{VouchedSize, vouched_size};
@@ -79,6 +80,23 @@ fn put_rows<S: Listing<D>, D: Digest>(
     }
 }
 
+/// As [`put_rows`], of signatures of `N` bytes, the last of which is the caller's verdict.
+fn put_rows_vouched<R: Role<N>, const N: usize>(
+    alloc: Global,
+    bound: u32,
+    stream: &[u8],
+    buffer: &mut [Row],
+    summary: &mut ReportSummary,
+) -> u32
+    ensures indexed { result ≢ 3 →
+        AreRowsGiven (⟦<Vouched<R, N> as Indexed<Sha256Digest>>⟧.is_index bound stream.now)
+        buffer.old buffer.new summary.new result }
+    ensures memory { result ≡ 3 → (buffer.new ≡ buffer.old) × (summary.new ≡ summary.old) }
+    ensures status { result ≢ 2 }
+{
+    put_rows::<Vouched<R, N>, Sha256Digest>(alloc, bound, stream, buffer, summary)
+}
+
 /// Puts a row for each message of a stream at the start of a buffer, if signatures have so many bytes: 32 under the plain
 /// scheme; or 48, 64 or 96, each with the caller's verdict behind it. Certificates are read under `bound`, the number of
 /// participants of the greatest committee. The status is [`WHOLE`](simplex_border::answer::WHOLE),
@@ -116,13 +134,13 @@ pub fn rows_of_stream(
     }
     match vouched_size(signature) {
         Some(VouchedSize::Of48) => {
-            put_rows::<Vouched<Role48, 49>, Sha256Digest>(alloc, bound, stream, buffer, summary)
+            put_rows_vouched::<Role48, 49>(alloc, bound, stream, buffer, summary)
         }
         Some(VouchedSize::Of64) => {
-            put_rows::<Vouched<Role64, 65>, Sha256Digest>(alloc, bound, stream, buffer, summary)
+            put_rows_vouched::<Role64, 65>(alloc, bound, stream, buffer, summary)
         }
         Some(VouchedSize::Of96) => {
-            put_rows::<Vouched<Role96, 97>, Sha256Digest>(alloc, bound, stream, buffer, summary)
+            put_rows_vouched::<Role96, 97>(alloc, bound, stream, buffer, summary)
         }
         None => ARGUMENTS,
     }
