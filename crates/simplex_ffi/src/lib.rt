@@ -14,6 +14,7 @@
 
 pub mod classes;
 pub mod decoding;
+mod derived;
 pub mod encoding;
 mod front;
 pub mod leaders;

@@ -12,7 +12,7 @@ use std::alloc::AllocError;
 use std::io::Write;
 
 /// Why `audit_live` ends without having read its input to the end, or fails.
-#[derive(Clone, Copy, Debug, PartialEq, Eq)]
+#[derive(Clone, Copy)]
 pub enum Trouble {
     /// The arguments end too early, or behind an option stands no number.
     Usage,

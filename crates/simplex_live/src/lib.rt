@@ -6,6 +6,7 @@
 #![tactic(auto)]
 
 pub mod complaints;
+mod derived;
 pub mod judging;
 pub mod keeping;
 pub mod key_file;

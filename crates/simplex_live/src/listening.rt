@@ -26,7 +26,7 @@ use std::fs::{File, Files};
 use std::io::{Read, Write};
 
 /// What was heard of an input, in numbers.
-#[derive(Clone, Copy, Debug)]
+#[derive(Clone, Copy)]
 pub struct Totals {
     /// Where the input stops being messages, if it does.
     pub fault: Option<Fault>,

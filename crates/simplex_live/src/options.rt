@@ -16,7 +16,7 @@ const RETAINED: u64 = 1000;
 const AHEAD: u64 = 10;
 
 /// What the options of `audit_live` say.
-#[derive(Clone, Copy, Debug)]
+#[derive(Clone, Copy)]
 pub struct Options<'a> {
     /// How many views before the finalized one are retained.
     pub retained: u64,

@@ -23,7 +23,7 @@ const FRAME: usize = 40;
 const MARK: usize = 56;
 
 /// How far the input was taken, and where the window was.
-#[derive(Clone, Copy, Debug, PartialEq, Eq)]
+#[derive(Clone, Copy)]
 pub struct Mark {
     /// How many bytes the messages have that were read so far.
     pub covers: u64,

@@ -5,6 +5,7 @@
 //! and holds what can stand for them if that is wanted; [`laws`] has that views stay admitted.
 #![tactic(auto)]
 
+mod derived;
 pub mod input;
 pub mod laws;
 pub mod monitor;

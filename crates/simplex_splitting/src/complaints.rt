@@ -15,7 +15,7 @@ pub const USAGE: &str =
     "usage: audit_split [--signature 32|48|64|96] [--seed NUMBER] BOUND CLASSES PREFIX FILE...\n";
 
 /// Why `audit_split` ends without having cut all files to their ends or faults.
-#[derive(Clone, Copy, Debug, PartialEq, Eq)]
+#[derive(Clone, Copy)]
 pub enum Trouble {
     /// The arguments are not as they have to be.
     Usage,
@@ -73,7 +73,7 @@ pub(crate) fn complain<E: Write>(
     files: &[String],
     trouble: Trouble,
 ) {
-    if trouble != Trouble::Usage {
+    if !matches!(trouble, Trouble::Usage) {
         say(errors, b"audit_split: ");
     }
     match trouble {

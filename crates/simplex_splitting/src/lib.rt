@@ -6,6 +6,7 @@
 
 pub mod complaints;
 pub mod cutting;
+mod derived;
 pub mod files;
 pub mod inputs;
 pub mod options;

@@ -24,7 +24,7 @@ use std::alloc::{AllocError, Global};
 use std::io::Read;
 
 /// What was read of an input.
-#[derive(Clone, Copy, Debug)]
+#[derive(Clone, Copy)]
 pub struct Totals {
     /// The number of messages read, of all classes.
     pub read: usize,
