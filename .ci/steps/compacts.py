@@ -103,4 +103,5 @@ def main():
     count = len(sizes) + refused(keys, whole["votes"])
     before, after = map(sum, zip(*sizes))
     pieces = in_pieces(keys, streams("votes", 7, 400))
-    print(f"{count} runs of audit_compact as they should be; {before} bytes came down to {after}; {pieces} pieces in their turn")
+    print(f"{count} runs of audit_compact as they should be; {before} bytes came down to {after}", end="; ")
+    print(f"{pieces} pieces in their turn")

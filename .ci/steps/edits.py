@@ -7,6 +7,7 @@ from .common import ROOT
 from .functions import functions
 
 IMPORTS = re.compile(r"(use [^;]*; ?)+$")
+ADDED = re.compile(r"\s*(pub )?fn ")
 
 
 @dataclasses.dataclass
@@ -43,7 +44,8 @@ class Edit:
         comment of another, count as nothing."""
         found = set()
         for path, old, new in self.pairs:
-            if IMPORTS.match(old) and IMPORTS.match(new) or old.lstrip().startswith("///") and new.endswith(old.lstrip()):
+            is_behind = old.lstrip().startswith("///") and new.endswith(old.lstrip())
+            if IMPORTS.match(old) and IMPORTS.match(new) or is_behind and ADDED.match(new):
                 continue
             text = self.text(path)
             line = text.count("\n", 0, text.find(old)) if text.count(old) == 1 else None

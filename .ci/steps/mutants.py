@@ -7,8 +7,8 @@ once, and what was found is kept under `~/.cache`. mutants/refused.txt has the d
 A check that is killed, as when memory runs out, is run once more. If it is killed again the step ends: its mutants are not
 tried.
 
-Two controls show that it is the mutants that are refused. A check of a crate's mutants has to prove a function, too, that stands
-there as it is: the shortest of those that other mutants of the crate change. If it calls one that is changed, it is checked
+Two controls show that it is the mutants that are refused. A check of a crate's mutants has to prove a function, too, that is
+as it stands: the shortest of those that other mutants of the crate change. If it calls one that is changed, it is checked
 alone. An edit of mutants/CRATE/gate/same/ means the same as what it changes: tried beside mutants, it must not be refused.
 """
 
